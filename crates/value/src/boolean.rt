@@ -1,0 +1,52 @@
+// What a condition answers.
+ghost use mathlib.Core.Path.{_≡_};
+ghost use Rattle.value.specs.Value.{connectiveAt, sure as sureT, negate, connect, holds as holdsT};
+ghost use Rattle.value.specs.Machine.{truthOf};
+
+pub enum Boolean {
+    True,
+    False,
+}
+
+impl Boolean {
+    pub fn sure(b: bool) -> Boolean
+        ensures { λ r. ⌜ truthOf r ≡ sureT b ⌝ }
+    {
+        if b { Boolean::True } else { Boolean::False }
+    }
+
+    pub fn negated(self) -> Boolean
+        ensures { λ r. ⌜ truthOf r ≡ negate (truthOf self) ⌝ }
+    {
+        match self {
+            Boolean::True => Boolean::False,
+            Boolean::False => Boolean::True,
+        }
+    }
+
+    // Kind 0 is and, any other or.
+    pub fn connected(self, kind: u8, other: Boolean) -> Boolean
+        ensures { λ r. ⌜ truthOf r ≡ connect (connectiveAt kind) (truthOf self) (truthOf other) ⌝ }
+    {
+        if kind == 0 {
+            match self {
+                Boolean::True => other,
+                Boolean::False => Boolean::False,
+            }
+        } else {
+            match self {
+                Boolean::True => Boolean::True,
+                Boolean::False => other,
+            }
+        }
+    }
+
+    pub fn holds(self) -> bool
+        ensures { λ r. ⌜ r ≡ holdsT (truthOf self) ⌝ }
+    {
+        match self {
+            Boolean::True => true,
+            Boolean::False => false,
+        }
+    }
+}

@@ -1,0 +1,112 @@
+// A value by value. Only this crate reads its field.
+use super::boolean::Boolean;
+use super::integer;
+ghost use mathlib.Core.Path.{_≡_};
+ghost use Rattle.value.specs.Integer.{bytesZ};
+ghost use Rattle.value.specs.Value.{Value, operationAt, comparisonAt, Operation, apply as applyV, round, compare as compareV, valueTest, narrowed, stored as storedV, shown as shownV};
+ghost use Rattle.value.specs.Machine.{valueOf, truthOf};
+
+pub struct Datum {
+    n: i32,
+}
+
+impl Datum {
+    // The value of a cell of the work area.
+    pub fn from_work(n: i32) -> Datum
+        ensures { λ r. ⌜ valueOf r ≡ Value.number n ⌝ }
+    {
+        Datum { n: n }
+    }
+
+    // The cell of the work area that stands for the value.
+    pub fn stored(self) -> i32
+        ensures { λ r. ⌜ r ≡ storedV (valueOf self) ⌝ }
+    {
+        self.n
+    }
+
+    // The value of a cell of the instance buffer.
+    pub fn from_instance(n: i16) -> Datum
+        ensures { λ r. ⌜ valueOf r ≡ Value.number n ⌝ }
+    {
+        Datum {
+            n: integer::widen16(n),
+        }
+    }
+
+    // The cell of the instance buffer that stands for the value; 0 where 16 bits do not hold it.
+    pub fn shown(self) -> i16
+        ensures { λ r. ⌜ r ≡ shownV (valueOf self) ⌝ }
+    {
+        integer::narrow16(self.n)
+    }
+
+    // A constant of two bytes, high byte first.
+    pub fn from_bytes(high: u8, low: u8) -> Datum
+        ensures { λ r. ⌜ valueOf r ≡ Value.number (bytesZ high low) ⌝ }
+    {
+        Datum::from_instance(integer::from_bytes(high, low))
+    }
+
+    fn sum(self, other: Datum) -> Datum
+        ensures { λ r. ⌜ valueOf r ≡ narrowed (applyV Operation.sum (valueOf self) (valueOf other)) ⌝ }
+    {
+        Datum {
+            n: integer::narrow(integer::add(self.n, other.n)),
+        }
+    }
+
+    fn difference(self, other: Datum) -> Datum
+        ensures { λ r. ⌜ valueOf r ≡ narrowed (applyV Operation.difference (valueOf self) (valueOf other)) ⌝ }
+    {
+        Datum {
+            n: integer::narrow(integer::subtract(self.n, other.n)),
+        }
+    }
+
+    fn product(self, other: Datum) -> Datum
+        ensures { λ r. ⌜ valueOf r ≡ narrowed (applyV Operation.product (valueOf self) (valueOf other)) ⌝ }
+    {
+        Datum {
+            n: integer::narrow(integer::multiply(self.n, other.n)),
+        }
+    }
+
+    // Kind 0 is the sum, 1 the difference, any other the product: the exact result where 32 bits hold it, else 0.
+    pub fn applied(self, kind: u8, other: Datum) -> Datum
+        ensures { λ r. ⌜ valueOf r ≡ narrowed (applyV (operationAt kind) (valueOf self) (valueOf other)) ⌝ }
+    {
+        match kind {
+            0 => self.sum(other),
+            1 => self.difference(other),
+            _ => self.product(other),
+        }
+    }
+
+    // The nearest multiple of m where 32 bits hold it, else 0.
+    pub fn rounded(self, m: u16) -> Datum
+        ensures { λ r. ⌜ valueOf r ≡ narrowed (round m (valueOf self)) ⌝ }
+    {
+        Datum {
+            n: integer::narrow(integer::round(self.n, m)),
+        }
+    }
+
+    // Kind 0 is equal, 1 less, any other less or equal.
+    pub fn compared(self, kind: u8, other: Datum) -> Boolean
+        ensures { λ r. ⌜ truthOf r ≡ compareV (comparisonAt kind) (valueOf self) (valueOf other) ⌝ }
+    {
+        match kind {
+            0 => Boolean::sure(integer::equal(self.n, other.n)),
+            1 => Boolean::sure(integer::less(self.n, other.n)),
+            _ => Boolean::sure(integer::less_equal(self.n, other.n)),
+        }
+    }
+
+    // The same cell, which grouping, set views and keys go by.
+    pub fn same(self, other: Datum) -> bool
+        ensures { λ r. ⌜ r ≡ valueTest .same (valueOf self) (valueOf other) ⌝ }
+    {
+        integer::equal(self.n, other.n)
+    }
+}

@@ -1,0 +1,202 @@
+// Signed numbers: each function has one operation, and a contract over the whole numbers for every input.
+ghost use mathlib.Core.Path.{_≡_};
+ghost use Prim.Native.Nat.{_≤_, _^_};
+ghost use lib.IntN.{pos, natAbs, _+ℤ_, _-ℤ_, _*ℤ_};
+ghost use lib.Signed.{ltZ, leZ};
+ghost use Rattle.value.specs.Integer.{in32, narrow32, narrow16 as narrow16Z, equalZ, minZ, maxZ, nearest, roundZ, signedOf, bytesZ, bitsOf, highByte, lowByte};
+
+// The two bytes of a 16-bit number, high byte first.
+pub struct Bytes {
+    pub high: u8,
+    pub low: u8,
+}
+
+pub fn add(a: i32, b: i32) -> i64
+    ensures { λ r. ⌜ r ≡ a +ℤ b ⌝ }
+{
+    (a as i64) + (b as i64)
+}
+
+pub fn subtract(a: i32, b: i32) -> i64
+    ensures { λ r. ⌜ r ≡ a -ℤ b ⌝ }
+{
+    (a as i64) - (b as i64)
+}
+
+pub fn multiply(a: i32, b: i32) -> i64
+    ensures { λ r. ⌜ r ≡ a *ℤ b ⌝ }
+{
+    (a as i64) * (b as i64)
+}
+
+// Whether 32 bits hold x.
+pub fn fits(x: i64) -> bool
+    ensures { λ r. ⌜ r ≡ in32 x ⌝ }
+{
+    -2147483648 <= x && x <= 2147483647
+}
+
+// x itself if 32 bits hold it, else 0.
+pub fn narrow(x: i64) -> i32
+    ensures { λ r. ⌜ r ≡ narrow32 x ⌝ }
+{
+    if x < -2147483648 {
+        return 0;
+    }
+    if 2147483647 < x {
+        return 0;
+    }
+    x as i32
+}
+
+// x itself if 16 bits hold it, else 0.
+pub fn narrow16(x: i32) -> i16
+    ensures { λ r. ⌜ r ≡ narrow16Z x ⌝ }
+{
+    if x < -32768 {
+        return 0;
+    }
+    if 32767 < x {
+        return 0;
+    }
+    x as i16
+}
+
+pub fn widen16(x: i16) -> i32
+    ensures { λ r. ⌜ r ≡ x ⌝ }
+{
+    x as i32
+}
+
+pub fn equal(a: i32, b: i32) -> bool
+    ensures { λ r. ⌜ r ≡ equalZ a b ⌝ }
+{
+    a == b
+}
+
+pub fn less(a: i32, b: i32) -> bool
+    ensures { λ r. ⌜ r ≡ ltZ a b ⌝ }
+{
+    a < b
+}
+
+pub fn less_equal(a: i32, b: i32) -> bool
+    ensures { λ r. ⌜ r ≡ leZ a b ⌝ }
+{
+    a <= b
+}
+
+pub fn lesser(a: i32, b: i32) -> i32
+    ensures { λ r. ⌜ r ≡ minZ a b ⌝ }
+{
+    if a <= b { a } else { b }
+}
+
+pub fn greater(a: i32, b: i32) -> i32
+    ensures { λ r. ⌜ r ≡ maxZ a b ⌝ }
+{
+    if a <= b { b } else { a }
+}
+
+// The same of 64 bits.
+pub fn lesser64(a: i64, b: i64) -> i64
+    ensures { λ r. ⌜ r ≡ minZ a b ⌝ }
+{
+    if a <= b { a } else { b }
+}
+
+pub fn greater64(a: i64, b: i64) -> i64
+    ensures { λ r. ⌜ r ≡ maxZ a b ⌝ }
+{
+    if a <= b { b } else { a }
+}
+
+// The number n above x.
+pub fn offset(x: i16, n: u32) -> i64
+    ensures { λ r. ⌜ r ≡ x +ℤ pos n ⌝ }
+{
+    (x as i64) + (n as i64)
+}
+
+fn subtract16(a: i16, b: i16) -> i32
+    ensures { λ r. ⌜ r ≡ a -ℤ b ⌝ }
+{
+    (a as i32) - (b as i32)
+}
+
+fn magnitude(x: i32) -> u64
+    ensures { λ r. ⌜ r ≡ natAbs x ⌝ }
+{
+    if x < 0 {
+        (0 - (x as i64)) as u64
+    } else {
+        x as u64
+    }
+}
+
+// How far apart two numbers lie.
+pub fn distance(a: i16, b: i16) -> u32
+    ensures { λ r. ⌜ (r ≡ natAbs (b -ℤ a)) × (r ≤ 65535) ⌝ }
+{
+    magnitude(subtract16(b, a)) as u32
+}
+
+// The multiple of m nearest to n, the upper one at a half; 0 where m is 0.
+fn near(n: u64, m: u16) -> u64
+    requires { ⌜ n ≤ 2 ^ 31 ⌝ }
+    ensures { λ r. ⌜ r ≡ nearest m n ⌝ }
+{
+    if m == 0 {
+        return 0;
+    }
+    let k = m as u64;
+    let q = n / k;
+    if 2 * (n % k) < k { q * k } else { (q + 1) * k }
+}
+
+// The multiple of m nearest to x, the one away from 0 at a half; 0 where m is 0.
+pub fn round(x: i32, m: u16) -> i64
+    ensures { λ r. ⌜ r ≡ roundZ m x ⌝ }
+{
+    let n = near(magnitude(x), m) as i64;
+    if x < 0 { 0 - n } else { n }
+}
+
+// The number of which n is the 16 bits.
+fn signed(n: u16) -> i16
+    ensures { λ r. ⌜ r ≡ signedOf n ⌝ }
+{
+    if n < 32768 {
+        n as i16
+    } else {
+        ((n as i32) - 65536) as i16
+    }
+}
+
+// The 16 bits of x, as a number.
+fn bits(x: i16) -> u16
+    ensures { λ r. ⌜ r ≡ bitsOf x ⌝ }
+{
+    if x < 0 {
+        ((x as i32) + 65536) as u16
+    } else {
+        x as u16
+    }
+}
+
+// Two's complement, high byte first.
+pub fn from_bytes(high: u8, low: u8) -> i16
+    ensures { λ r. ⌜ r ≡ bytesZ high low ⌝ }
+{
+    signed((high as u16) * 256 + (low as u16))
+}
+
+pub fn to_bytes(x: i16) -> Bytes
+    ensures { λ r. ⌜ (r .high ≡ highByte x) × (r .low ≡ lowByte x) ⌝ }
+{
+    let n = bits(x);
+    Bytes {
+        high: (n / 256) as u8,
+        low: (n % 256) as u8,
+    }
+}
