@@ -3,7 +3,7 @@ use mathlib.Core.Path.{_≡_, refl}
 use mathlib.Core.List.{List, [], _∷_, map}
 use lib.IntN.{pos, negsuc}
 use Rattle.value.specs.Integer.{stepsUp, roundZ, minZ, maxZ, signedOf, bytesZ}
-use Rattle.value.specs.Value.{Value, Aggregate, start, more, finish, total, narrowed}
+use Rattle.value.specs.Value.{Value, Aggregate, start, weight, more, finish, total, narrowed}
 
 -- M3: rounding by 10
 m3 : map (roundZ 10) (pos 14 ∷ pos 15 ∷ negsuc 14 ∷ negsuc 13 ∷ pos 5 ∷ negsuc 4 ∷ pos 0 ∷ [])
@@ -26,7 +26,7 @@ fifties = Value.number (pos 50) ∷ Value.number (pos 51) ∷ []
 
 totals : map (λ op. total op fifties) (Aggregate.count ∷ Aggregate.sum ∷ Aggregate.minimum ∷ Aggregate.maximum ∷ [])
     ≡ Value.number (pos 2) ∷ Value.number (pos 101) ∷ Value.number (pos 50) ∷ Value.number (pos 51) ∷ []
-unfolding fifties start more finish minZ maxZ
+unfolding fifties start weight more finish minZ maxZ
 totals = refl
 
 -- 2^31 is one too many for 32 bits

@@ -11,7 +11,7 @@ use lib.ListN.{length}
 use lib.Signed.{_≤ℤ_}
 use Rattle.value.specs.Bag.{All, Same}
 use Rattle.value.specs.Integer.{low32, high32, low16, high16, minZ, maxZ, roundZ}
-use Rattle.value.specs.Value.{Operation, operationAt, Comparison, comparisonAt, Connective, connectiveAt, Aggregate, aggregateAt, sure, negate, holds, Value, apply, round, valueTest, Tally, start, gather, more, finish, total, Between, between, Held, narrowed, narrowedTally, stored, shown, Column, Within, within, size, digit}
+use Rattle.value.specs.Value.{Operation, operationAt, Comparison, comparisonAt, Connective, connectiveAt, Aggregate, aggregateAt, sure, negate, holds, Value, apply, round, valueTest, Tally, start, combine, weight, gather, more, finish, total, Between, between, Held, narrowed, narrowedTally, stored, shown, Column, Within, within, size, digit}
 use Rattle.value.proofs.Decides.{Decides, and-dec, by-dec}
 use Rattle.value.proofs.Linear.{‵, _⊕_, _⊗_, ≤-by, ≤-to, ≤-parts, sum-parts, diff-parts, magnitude-parts, ints}
 use Rattle.value.proofs.Order.{≤-trans, ≤-self, ≤-dec, sum-mono, difference-mono, min-below, max-above, below-min, above-max, min-comm, max-comm, min-assoc, max-assoc, leastProduct, mostProduct, product-hull, multiple-low, multiple-high}
@@ -47,6 +47,14 @@ start-else zero h = absurd (h refl)
 start-else (suc zero) h = refl
 start-else (suc (suc zero)) h = refl
 start-else (suc (suc (suc n))) h = refl
+
+-- and only count does not look at the value
+pub weight-else : (n : ℕ) (z : ℤ) → (n ≡ 0 → ⊥) → weight (aggregateAt n) (Value.number z) ≡ z
+unfolding weight
+weight-else zero z h = absurd (h refl)
+weight-else (suc zero) z h = refl
+weight-else (suc (suc zero)) z h = refl
+weight-else (suc (suc (suc n))) z h = refl
 
 -- ---- truths
 pub holds-sure : (b : Bool) → holds (sure b) ≡ b
@@ -102,17 +110,25 @@ unfolding round
 round-between m (Between.number a b) = Between.number (round-mono m a) (round-mono m b)
 
 -- ---- aggregates: the steps commute, so that only the bag of the values counts
-module _ (f : ℤ → ℤ → ℤ) (comm : (a b : ℤ) → f a b ≡ f b a) (assoc : (a b c : ℤ) → f (f a b) c ≡ f a (f b c)) where
-  gather-comm : (a b : ℤ) (t : Tally) → gather f a (gather f b t) ≡ gather f b (gather f a t)
-  gather-comm a b none = ap some (comm b a)
-  gather-comm a b (some t) = ap some (assoc t b a ∙ ap (f t) (comm b a) ∙ sym (assoc t a b))
+combine-comm : (op : Aggregate) (a b : ℤ) → combine op a b ≡ combine op b a
+combine-comm Aggregate.count = +ℤ-comm
+combine-comm Aggregate.sum = +ℤ-comm
+combine-comm Aggregate.minimum = min-comm
+combine-comm Aggregate.maximum = max-comm
+
+combine-assoc : (op : Aggregate) (a b c : ℤ) → combine op (combine op a b) c ≡ combine op a (combine op b c)
+combine-assoc Aggregate.count = +ℤ-assoc
+combine-assoc Aggregate.sum = +ℤ-assoc
+combine-assoc Aggregate.minimum = min-assoc
+combine-assoc Aggregate.maximum = max-assoc
+
+gather-comm : (op : Aggregate) (a b : ℤ) (t : Tally) → gather op a (gather op b t) ≡ gather op b (gather op a t)
+gather-comm op a b none = ap some (combine-comm op b a)
+gather-comm op a b (some t) = ap some (combine-assoc op t b a ∙ ap (combine op t) (combine-comm op b a) ∙ sym (combine-assoc op t a b))
 
 pub more-comm : (op : Aggregate) → Commutes (more op)
 unfolding more
-more-comm Aggregate.count v w t = refl
-more-comm Aggregate.sum (Value.number a) (Value.number b) t = gather-comm _+ℤ_ +ℤ-comm +ℤ-assoc a b t
-more-comm Aggregate.minimum (Value.number a) (Value.number b) t = gather-comm minZ min-comm min-assoc a b t
-more-comm Aggregate.maximum (Value.number a) (Value.number b) t = gather-comm maxZ max-comm max-assoc a b t
+more-comm op v w t = gather-comm op (weight op v) (weight op w) t
 
 pub total-bag : (op : Aggregate) {vs ws : List Value} → Same valueTest vs ws → total op vs ≡ total op ws
 total-bag op h = ap finish (fold-bag (more op) (more-comm op) (start op) h)
@@ -140,7 +156,7 @@ held-tally (TallyBetween.number a b) = ap some (narrow32-held a b)
 
 -- a count is the number of values
 pub count-tally : (vs : List Value) → tally Aggregate.count vs ≡ some (pos (length vs))
-unfolding start more
+unfolding start more weight
 count-tally [] = refl
 count-tally (v ∷ vs) = rw (count-tally vs) (ap some (+ℤ-comm (pos (length vs)) (pos 1) ∙ ap pos (omega arith)))
 
@@ -151,7 +167,7 @@ count-between R vs h = rw (count-tally vs) (TallyBetween.number {z = pos (length
 module _ {m M : ℤ} (neg : m ≤ℤ pos 0) (non : pos 0 ≤ℤ M) where
   sum-step : (k : ℕ) {v : Value} {t : Tally} → Between m M v → TallyBetween (pos k *ℤ m) (pos k *ℤ M) t
       → TallyBetween (pos (suc k) *ℤ m) (pos (suc k) *ℤ M) (more Aggregate.sum v t)
-  unfolding more
+  unfolding more weight
   sum-step k (Between.number {z} a b) TallyBetween.nothing =
       TallyBetween.number
       (≤-by (‵ (pos (suc k)) ⊗ ‵ m) (‵ z) (omega (ints, mul-le-mul-left k (≤-parts neg))))
@@ -181,12 +197,12 @@ sum-tally {lo} {hi} R {vs} h bs =
 
 -- "min and max keep the range"
 minimum-step : {lo hi : ℤ} {v : Value} {t : Tally} → Between lo hi v → TallyBetween lo hi t → TallyBetween lo hi (more Aggregate.minimum v t)
-unfolding more
+unfolding more weight
 minimum-step (Between.number a b) TallyBetween.nothing = TallyBetween.number a b
 minimum-step (Between.number {z} a b) (TallyBetween.number {z = t} c d) = TallyBetween.number (below-min t z c a) (≤-trans (min-below t z .0) d)
 
 maximum-step : {lo hi : ℤ} {v : Value} {t : Tally} → Between lo hi v → TallyBetween lo hi t → TallyBetween lo hi (more Aggregate.maximum v t)
-unfolding more
+unfolding more weight
 maximum-step (Between.number a b) TallyBetween.nothing = TallyBetween.number a b
 maximum-step (Between.number {z} a b) (TallyBetween.number {z = t} c d) = TallyBetween.number (≤-trans c (max-above t z .0)) (above-max t z d b)
 
@@ -202,17 +218,14 @@ module _ {lo hi : ℤ} where
   maximum-tally (All.cons b bs) = maximum-step b (maximum-tally bs)
 
 -- what a group with a member comes to lies where its tally lies
-gather-finish : {lo hi : ℤ} (f : ℤ → ℤ → ℤ) (z : ℤ) (t : Tally) → TallyBetween lo hi (gather f z t) → Between lo hi (finish (gather f z t))
+gather-finish : {lo hi : ℤ} (op : Aggregate) (z : ℤ) (t : Tally) → TallyBetween lo hi (gather op z t) → Between lo hi (finish (gather op z t))
 unfolding finish
-gather-finish f z none (TallyBetween.number a b) = Between.number a b
-gather-finish f z (some t) (TallyBetween.number a b) = Between.number a b
+gather-finish op z none (TallyBetween.number a b) = Between.number a b
+gather-finish op z (some t) (TallyBetween.number a b) = Between.number a b
 
 pub total-between : {lo hi : ℤ} (op : Aggregate) (v : Value) (vs : List Value) → TallyBetween lo hi (tally op (v ∷ vs)) → Between lo hi (total op (v ∷ vs))
 unfolding more
-total-between Aggregate.count v vs b = gather-finish _+ℤ_ (pos 1) (tally Aggregate.count vs) b
-total-between Aggregate.sum (Value.number z) vs b = gather-finish _+ℤ_ z (tally Aggregate.sum vs) b
-total-between Aggregate.minimum (Value.number z) vs b = gather-finish minZ z (tally Aggregate.minimum vs) b
-total-between Aggregate.maximum (Value.number z) vs b = gather-finish maxZ z (tally Aggregate.maximum vs) b
+total-between op v vs b = gather-finish op (weight op v) (tally op vs) b
 
 -- ---- cells: reading back what was written
 pub stored-number : (z : ℤ) → stored (Value.number z) ≡ z

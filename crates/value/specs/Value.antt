@@ -136,16 +136,27 @@ start Aggregate.sum = none
 start Aggregate.minimum = none
 start Aggregate.maximum = none
 
-abbrev pub gather : (ℤ → ℤ → ℤ) → ℤ → Tally → Tally
-gather f z none = some z
-gather f z (some t) = some (f t z)
+-- what two numbers come to
+abbrev pub combine : Aggregate → ℤ → ℤ → ℤ
+combine Aggregate.count = _+ℤ_
+combine Aggregate.sum = _+ℤ_
+combine Aggregate.minimum = minZ
+combine Aggregate.maximum = maxZ
 
--- one value more; "Count counts members"
+-- what a value counts for; "Count counts members"
+unfoldable pub weight : Aggregate → Value → ℤ
+weight Aggregate.count v = pos 1
+weight Aggregate.sum (Value.number z) = z
+weight Aggregate.minimum (Value.number z) = z
+weight Aggregate.maximum (Value.number z) = z
+
+abbrev pub gather : Aggregate → ℤ → Tally → Tally
+gather op z none = some z
+gather op z (some t) = some (combine op t z)
+
+-- one value more
 unfoldable pub more : Aggregate → Value → Tally → Tally
-more Aggregate.count v t = gather _+ℤ_ (pos 1) t
-more Aggregate.sum (Value.number z) t = gather _+ℤ_ z t
-more Aggregate.minimum (Value.number z) t = gather minZ z t
-more Aggregate.maximum (Value.number z) t = gather maxZ z t
+more op v t = gather op (weight op v) t
 
 -- "A group has at least one member": 0 stands for what is never met
 unfoldable pub finish : Tally → Value

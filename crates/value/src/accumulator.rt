@@ -2,9 +2,7 @@
 use super::datum::Datum;
 use super::integer;
 ghost use mathlib.Core.Path.{_≡_};
-ghost use lib.IntN.{pos, _+ℤ_};
-ghost use Rattle.value.specs.Integer.{minZ, maxZ};
-ghost use Rattle.value.specs.Value.{Aggregate, aggregateAt, gather, start as startT, more as moreT, finish as finishT, narrowedTally};
+ghost use Rattle.value.specs.Value.{aggregateAt, start as startT, more as moreT, finish as finishT, narrowedTally};
 ghost use Rattle.value.specs.Machine.{valueOf, tallyOf};
 
 pub enum Accumulator {
@@ -23,42 +21,14 @@ impl Accumulator {
         }
     }
 
-    fn summed(self, n: i32) -> Accumulator
-        ensures { λ r. ⌜ tallyOf r ≡ narrowedTally (gather _+ℤ_ n (tallyOf self)) ⌝ }
-    {
-        match self {
-            Accumulator::Nothing => Accumulator::Total(n),
-            Accumulator::Total(t) => Accumulator::Total(integer::narrow(integer::add(t, n))),
-        }
-    }
-
-    fn lowered(self, n: i32) -> Accumulator
-        ensures { λ r. ⌜ tallyOf r ≡ narrowedTally (gather minZ n (tallyOf self)) ⌝ }
-    {
-        match self {
-            Accumulator::Nothing => Accumulator::Total(n),
-            Accumulator::Total(t) => Accumulator::Total(integer::lesser(t, n)),
-        }
-    }
-
-    fn raised(self, n: i32) -> Accumulator
-        ensures { λ r. ⌜ tallyOf r ≡ narrowedTally (gather maxZ n (tallyOf self)) ⌝ }
-    {
-        match self {
-            Accumulator::Nothing => Accumulator::Total(n),
-            Accumulator::Total(t) => Accumulator::Total(integer::greater(t, n)),
-        }
-    }
-
     // One value more; what no longer fits 32 bits becomes 0.
     pub fn more(self, kind: u8, value: Datum) -> Accumulator
         ensures { λ r. ⌜ tallyOf r ≡ narrowedTally (moreT (aggregateAt kind) (valueOf value) (tallyOf self)) ⌝ }
     {
-        match kind {
-            0 => self.summed(1),
-            1 => self.summed(value.stored()),
-            2 => self.lowered(value.stored()),
-            _ => self.raised(value.stored()),
+        let n = value.weight(kind);
+        match self {
+            Accumulator::Nothing => Accumulator::Total(n),
+            Accumulator::Total(t) => Accumulator::Total(integer::combined(kind, t, n)),
         }
     }
 

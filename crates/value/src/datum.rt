@@ -3,7 +3,7 @@ use super::boolean::Boolean;
 use super::integer;
 ghost use mathlib.Core.Path.{_≡_};
 ghost use Rattle.value.specs.Integer.{bytesZ};
-ghost use Rattle.value.specs.Value.{Value, operationAt, comparisonAt, Operation, apply as applyV, round, compare as compareV, valueTest, narrowed, stored as storedV, shown as shownV};
+ghost use Rattle.value.specs.Value.{Value, operationAt, comparisonAt, aggregateAt, apply as applyV, round, compare as compareV, valueTest, narrowed, weight as weightV, stored as storedV, shown as shownV};
 ghost use Rattle.value.specs.Machine.{valueOf, truthOf};
 
 pub struct Datum {
@@ -48,38 +48,12 @@ impl Datum {
         Datum::from_instance(integer::from_bytes(high, low))
     }
 
-    fn sum(self, other: Datum) -> Datum
-        ensures { λ r. ⌜ valueOf r ≡ narrowed (applyV Operation.sum (valueOf self) (valueOf other)) ⌝ }
-    {
-        Datum {
-            n: integer::narrow(integer::add(self.n, other.n)),
-        }
-    }
-
-    fn difference(self, other: Datum) -> Datum
-        ensures { λ r. ⌜ valueOf r ≡ narrowed (applyV Operation.difference (valueOf self) (valueOf other)) ⌝ }
-    {
-        Datum {
-            n: integer::narrow(integer::subtract(self.n, other.n)),
-        }
-    }
-
-    fn product(self, other: Datum) -> Datum
-        ensures { λ r. ⌜ valueOf r ≡ narrowed (applyV Operation.product (valueOf self) (valueOf other)) ⌝ }
-    {
-        Datum {
-            n: integer::narrow(integer::multiply(self.n, other.n)),
-        }
-    }
-
     // Kind 0 is the sum, 1 the difference, any other the product: the exact result where 32 bits hold it, else 0.
     pub fn applied(self, kind: u8, other: Datum) -> Datum
         ensures { λ r. ⌜ valueOf r ≡ narrowed (applyV (operationAt kind) (valueOf self) (valueOf other)) ⌝ }
     {
-        match kind {
-            0 => self.sum(other),
-            1 => self.difference(other),
-            _ => self.product(other),
+        Datum {
+            n: integer::narrow(integer::operate(kind, self.n, other.n)),
         }
     }
 
@@ -96,11 +70,7 @@ impl Datum {
     pub fn compared(self, kind: u8, other: Datum) -> Boolean
         ensures { λ r. ⌜ truthOf r ≡ compareV (comparisonAt kind) (valueOf self) (valueOf other) ⌝ }
     {
-        match kind {
-            0 => Boolean::sure(integer::equal(self.n, other.n)),
-            1 => Boolean::sure(integer::less(self.n, other.n)),
-            _ => Boolean::sure(integer::less_equal(self.n, other.n)),
-        }
+        Boolean::sure(integer::compare(kind, self.n, other.n))
     }
 
     // The same cell, which grouping, set views and keys go by.
@@ -108,5 +78,15 @@ impl Datum {
         ensures { λ r. ⌜ r ≡ valueTest .same (valueOf self) (valueOf other) ⌝ }
     {
         integer::equal(self.n, other.n)
+    }
+
+    // What the value counts for in an aggregate of that kind.
+    pub fn weight(self, kind: u8) -> i32
+        ensures { λ r. ⌜ r ≡ weightV (aggregateAt kind) (valueOf self) ⌝ }
+    {
+        if kind == 0 {
+            return 1;
+        }
+        self.n
     }
 }

@@ -4,6 +4,7 @@ ghost use Prim.Native.Nat.{_≤_, _^_};
 ghost use lib.IntN.{pos, natAbs, _+ℤ_, _-ℤ_, _*ℤ_};
 ghost use lib.Signed.{ltZ, leZ};
 ghost use Rattle.value.specs.Integer.{in32, narrow32, narrow16 as narrow16Z, equalZ, minZ, maxZ, nearest, roundZ, signedOf, bytesZ, bitsOf, highByte, lowByte};
+ghost use Rattle.value.specs.Value.{operationAt, comparisonAt, aggregateAt, applyZ, compareZ, combine};
 
 // The two bytes of a 16-bit number, high byte first.
 pub struct Bytes {
@@ -74,13 +75,13 @@ pub fn equal(a: i32, b: i32) -> bool
     a == b
 }
 
-pub fn less(a: i32, b: i32) -> bool
+fn less(a: i32, b: i32) -> bool
     ensures { λ r. ⌜ r ≡ ltZ a b ⌝ }
 {
     a < b
 }
 
-pub fn less_equal(a: i32, b: i32) -> bool
+fn less_equal(a: i32, b: i32) -> bool
     ensures { λ r. ⌜ r ≡ leZ a b ⌝ }
 {
     a <= b
@@ -109,6 +110,40 @@ pub fn greater64(a: i64, b: i64) -> i64
     ensures { λ r. ⌜ r ≡ maxZ a b ⌝ }
 {
     if a <= b { b } else { a }
+}
+
+// Kind 0 is the sum, 1 the difference, any other the product.
+pub fn operate(kind: u8, a: i32, b: i32) -> i64
+    ensures { λ r. ⌜ r ≡ applyZ (operationAt kind) a b ⌝ }
+{
+    match kind {
+        0 => add(a, b),
+        1 => subtract(a, b),
+        _ => multiply(a, b),
+    }
+}
+
+// Kind 0 is equal, 1 less, any other less or equal.
+pub fn compare(kind: u8, a: i32, b: i32) -> bool
+    ensures { λ r. ⌜ r ≡ compareZ (comparisonAt kind) a b ⌝ }
+{
+    match kind {
+        0 => equal(a, b),
+        1 => less(a, b),
+        _ => less_equal(a, b),
+    }
+}
+
+// What two numbers come to in an aggregate: kinds 0 and 1 are the sum, 2 the lesser, any other the greater.
+pub fn combined(kind: u8, a: i32, b: i32) -> i32
+    ensures { λ r. ⌜ r ≡ narrow32 (combine (aggregateAt kind) a b) ⌝ }
+{
+    match kind {
+        0 => narrow(add(a, b)),
+        1 => narrow(add(a, b)),
+        2 => lesser(a, b),
+        _ => greater(a, b),
+    }
 }
 
 // The number n above x.
