@@ -7,7 +7,7 @@ use native.Mathlib.Nat.{mul-le-mul-right}
 use native.Mathlib.Omega.{arith}
 use lib.IntN.{ℤ, pos, negsuc, _+ℤ_, _-ℤ_, _*ℤ_, *ℤ-comm}
 use lib.Signed.{leZ, ltZ, _≤ℤ_, _<ℤ_, leZ-yes, ltZ-yes}
-use Rattle.value.specs.Integer.{minZ, maxZ}
+use Rattle.value.specs.Integer.{minZ, maxZ, leastEnd, greatestEnd}
 use Rattle.value.proofs.Decides.{Decides, by-test}
 use Rattle.value.proofs.Linear.{‵, _⊕_, _⊖_, _⊗_, ≤-by, ≤-parts, leZ-true, leZ-false, ints}
 
@@ -98,13 +98,6 @@ pub record In (lo hi z : ℤ) : Type 0 where
   pub low : lo ≤ℤ z
   pub high : z ≤ℤ hi
 
--- the least and the greatest of the four products of ends
-abbrev pub leastProduct : ℤ → ℤ → ℤ → ℤ → ℤ
-leastProduct l h l′ h′ = minZ (minZ (l *ℤ l′) (l *ℤ h′)) (minZ (h *ℤ l′) (h *ℤ h′))
-
-abbrev pub mostProduct : ℤ → ℤ → ℤ → ℤ → ℤ
-mostProduct l h l′ h′ = maxZ (maxZ (l *ℤ l′) (l *ℤ h′)) (maxZ (h *ℤ l′) (h *ℤ h′))
-
 -- one factor fixed: a product lies between those of the ends
 scaled : {l a h : ℤ} (c : ℤ) → In l h a → In (minZ (l *ℤ c) (h *ℤ c)) (maxZ (l *ℤ c) (h *ℤ c)) (a *ℤ c)
 scaled {l} {a} {h} (pos n) i =
@@ -121,16 +114,45 @@ scaled {l} {a} {h} (negsuc n) i =
 scaled-left : {l b h : ℤ} (c : ℤ) → In l h b → In (minZ (c *ℤ l) (c *ℤ h)) (maxZ (c *ℤ l) (c *ℤ h)) (c *ℤ b)
 scaled-left {l} {b} {h} c i = rw (*ℤ-comm c l, *ℤ-comm c h, *ℤ-comm c b) (scaled c i)
 
--- the hull of a product: a × b lies between the least and the greatest product of the ends
-pub product-hull : {l a h l′ b h′ : ℤ} → In l h a → In l′ h′ b → In (leastProduct l h l′ h′) (mostProduct l h l′ h′) (a *ℤ b)
-product-hull {l} {a} {h} {l′} {b} {h′} i j =
-    let m = scaled b i in
-    let p = scaled-left l j in
-    let q = scaled-left h j in
-    record {
-      low = ≤-trans (below-min _ _ (≤-trans (min-below _ _ .0) (p .low)) (≤-trans (min-below _ _ .1) (q .low))) (m .low);
-      high = ≤-trans (m .high) (above-max _ _ (≤-trans (p .high) (max-above _ _ .0)) (≤-trans (q .high) (max-above _ _ .1)));
-    }
+-- each of the four end results lies between the least and the greatest
+module _ (f : ℤ → ℤ → ℤ) (l h l′ h′ : ℤ) where
+  pub low-low : In (leastEnd f l h l′ h′) (greatestEnd f l h l′ h′) (f l l′)
+  low-low = record { low = ≤-trans (min-below _ _ .0) (min-below _ _ .0); high = ≤-trans (max-above _ _ .0) (max-above _ _ .0) }
+
+  pub low-high : In (leastEnd f l h l′ h′) (greatestEnd f l h l′ h′) (f l h′)
+  low-high = record { low = ≤-trans (min-below _ _ .0) (min-below _ _ .1); high = ≤-trans (max-above _ _ .1) (max-above _ _ .0) }
+
+  pub high-low : In (leastEnd f l h l′ h′) (greatestEnd f l h l′ h′) (f h l′)
+  high-low = record { low = ≤-trans (min-below _ _ .1) (min-below _ _ .0); high = ≤-trans (max-above _ _ .0) (max-above _ _ .1) }
+
+  pub high-high : In (leastEnd f l h l′ h′) (greatestEnd f l h l′ h′) (f h h′)
+  high-high = record { low = ≤-trans (min-below _ _ .1) (min-below _ _ .1); high = ≤-trans (max-above _ _ .1) (max-above _ _ .1) }
+
+-- the hulls: a sum, a difference and a product of numbers between ends lie in the hull of the end results
+module _ {l a h l′ b h′ : ℤ} (i : In l h a) (j : In l′ h′ b) where
+  pub sum-hull : In (leastEnd _+ℤ_ l h l′ h′) (greatestEnd _+ℤ_ l h l′ h′) (a +ℤ b)
+  sum-hull =
+      record {
+        low = ≤-trans (low-low _+ℤ_ l h l′ h′ .low) (sum-mono (i .low) (j .low));
+        high = ≤-trans (sum-mono (i .high) (j .high)) (high-high _+ℤ_ l h l′ h′ .high);
+      }
+
+  pub difference-hull : In (leastEnd _-ℤ_ l h l′ h′) (greatestEnd _-ℤ_ l h l′ h′) (a -ℤ b)
+  difference-hull =
+      record {
+        low = ≤-trans (low-high _-ℤ_ l h l′ h′ .low) (difference-mono (i .low) (j .high));
+        high = ≤-trans (difference-mono (i .high) (j .low)) (high-low _-ℤ_ l h l′ h′ .high);
+      }
+
+  pub product-hull : In (leastEnd _*ℤ_ l h l′ h′) (greatestEnd _*ℤ_ l h l′ h′) (a *ℤ b)
+  product-hull =
+      let m = scaled b i in
+      let p = scaled-left l j in
+      let q = scaled-left h j in
+      record {
+        low = ≤-trans (below-min _ _ (≤-trans (min-below _ _ .0) (p .low)) (≤-trans (min-below _ _ .1) (q .low))) (m .low);
+        high = ≤-trans (m .high) (above-max _ _ (≤-trans (p .high) (max-above _ _ .0)) (≤-trans (q .high) (max-above _ _ .1)));
+      }
 
 -- a multiple of a number that is not positive falls as the factor grows, and of one that is not negative rises
 module _ {n R : ℕ} (h : n ≤ R) where

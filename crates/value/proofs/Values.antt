@@ -10,11 +10,11 @@ use lib.IntN.{ℤ, pos, natAbs, _+ℤ_, _-ℤ_, _*ℤ_, +ℤ-assoc, +ℤ-comm}
 use lib.ListN.{length}
 use lib.Signed.{_≤ℤ_}
 use Rattle.value.specs.Bag.{All, Same}
-use Rattle.value.specs.Integer.{low32, high32, low16, high16, minZ, maxZ, roundZ}
-use Rattle.value.specs.Value.{Operation, operationAt, Comparison, comparisonAt, Connective, connectiveAt, Aggregate, aggregateAt, sure, negate, holds, Value, apply, round, valueTest, Tally, start, combine, weight, gather, more, finish, total, Between, between, Held, narrowed, narrowedTally, stored, shown, Column, Within, within, size, digit}
+use Rattle.value.specs.Integer.{low32, high32, low16, high16, minZ, maxZ, leastEnd, greatestEnd, roundZ}
+use Rattle.value.specs.Value.{Operation, operationAt, applyZ, Comparison, comparisonAt, Connective, connectiveAt, Aggregate, aggregateAt, sure, negate, holds, Value, apply, round, valueTest, Tally, start, combine, weight, gather, more, finish, total, Between, between, Held, narrowed, narrowedTally, stored, shown, Column, Within, within, size, digit}
 use Rattle.value.proofs.Decides.{Decides, and-dec, by-dec}
 use Rattle.value.proofs.Linear.{‵, _⊕_, _⊗_, ≤-by, ≤-to, ≤-parts, sum-parts, diff-parts, magnitude-parts, ints}
-use Rattle.value.proofs.Order.{≤-trans, ≤-self, ≤-dec, sum-mono, difference-mono, min-below, max-above, below-min, above-max, min-comm, max-comm, min-assoc, max-assoc, leastProduct, mostProduct, product-hull, multiple-low, multiple-high}
+use Rattle.value.proofs.Order.{≤-trans, ≤-self, ≤-dec, min-below, max-above, below-min, above-max, min-comm, max-comm, min-assoc, max-assoc, In, sum-hull, difference-hull, product-hull, multiple-low, multiple-high}
 use Rattle.value.proofs.Fits.{narrow32-held, narrow16-held}
 use Rattle.value.proofs.Rounding.{round-mono}
 use Rattle.value.proofs.Bags.{Commutes, fold-snoc, fold-bag}
@@ -90,19 +90,16 @@ unfolding narrowed
 held-narrowed (Between.number a b) = ap Value.number (narrow32-held a b)
 
 -- ---- operations on bounded values give bounded ones
-pub sum-between : {l h l′ h′ : ℤ} {v w : Value} → Between l h v → Between l′ h′ w → Between (l +ℤ l′) (h +ℤ h′) (apply Operation.sum v w)
-unfolding apply
-sum-between (Between.number a b) (Between.number c d) = Between.number (sum-mono a c) (sum-mono b d)
+apply-hull : (op : Operation) {l a h l′ b h′ : ℤ} → In l h a → In l′ h′ b → In (leastEnd (applyZ op) l h l′ h′) (greatestEnd (applyZ op) l h l′ h′) (applyZ op a b)
+apply-hull Operation.sum = sum-hull
+apply-hull Operation.difference = difference-hull
+apply-hull Operation.product = product-hull
 
-pub difference-between : {l h l′ h′ : ℤ} {v w : Value} → Between l h v → Between l′ h′ w → Between (l -ℤ h′) (h -ℤ l′) (apply Operation.difference v w)
+pub apply-between : (op : Operation) {l h l′ h′ : ℤ} {v w : Value} → Between l h v → Between l′ h′ w
+    → Between (leastEnd (applyZ op) l h l′ h′) (greatestEnd (applyZ op) l h l′ h′) (apply op v w)
 unfolding apply
-difference-between (Between.number a b) (Between.number c d) = Between.number (difference-mono a d) (difference-mono b c)
-
-pub product-between : {l h l′ h′ : ℤ} {v w : Value} → Between l h v → Between l′ h′ w
-    → Between (leastProduct l h l′ h′) (mostProduct l h l′ h′) (apply Operation.product v w)
-unfolding apply
-product-between (Between.number a b) (Between.number c d) =
-    let i = product-hull (record { low = a; high = b }) (record { low = c; high = d }) in
+apply-between op (Between.number a b) (Between.number c d) =
+    let i = apply-hull op (record { low = a; high = b }) (record { low = c; high = d }) in
     Between.number (i .low) (i .high)
 
 pub round-between : {l h : ℤ} {v : Value} (m : ℕ) → Between l h v → Between (roundZ m l) (roundZ m h) (round m v)

@@ -45,6 +45,13 @@ minZ a b = cond (leZ a b) a b
 unfoldable pub maxZ : ℤ → ℤ → ℤ
 maxZ a b = cond (leZ a b) b a
 
+-- "the hull of the end results": the least and the greatest of f at the ends of l to h and of l′ to h′
+abbrev pub leastEnd : (ℤ → ℤ → ℤ) → ℤ → ℤ → ℤ → ℤ → ℤ
+leastEnd f l h l′ h′ = minZ (minZ (f l l′) (f l h′)) (minZ (f h l′) (f h h′))
+
+abbrev pub greatestEnd : (ℤ → ℤ → ℤ) → ℤ → ℤ → ℤ → ℤ → ℤ
+greatestEnd f l h l′ h′ = maxZ (maxZ (f l l′) (f l h′)) (maxZ (f h l′) (f h h′))
+
 -- token 05: "the nearest multiple of m, halves away from zero". A number q × m + r, with r below m, lies between q × m and
 -- (q + 1) × m: how many steps it goes up. From the half on that is one
 unfoldable pub stepsUp : ℕ → ℕ → ℕ → ℕ

@@ -1,9 +1,10 @@
 // Signed numbers: each function has one operation, and a contract over the whole numbers for every input.
 ghost use mathlib.Core.Path.{_≡_};
+ghost use mathlib.Core.Bool.{_&&_};
 ghost use Prim.Native.Nat.{_≤_, _^_};
 ghost use lib.IntN.{pos, natAbs, _+ℤ_, _-ℤ_, _*ℤ_};
 ghost use lib.Signed.{ltZ, leZ};
-ghost use Rattle.value.specs.Integer.{in32, narrow32, narrow16 as narrow16Z, equalZ, minZ, maxZ, nearest, roundZ, signedOf, bytesZ, bitsOf, highByte, lowByte};
+ghost use Rattle.value.specs.Integer.{narrow32, narrow16 as narrow16Z, equalZ, minZ, maxZ, nearest, roundZ, signedOf, bytesZ, bitsOf, highByte, lowByte};
 ghost use Rattle.value.specs.Value.{operationAt, comparisonAt, aggregateAt, applyZ, compareZ, combine};
 
 // The two bytes of a 16-bit number, high byte first.
@@ -30,11 +31,18 @@ pub fn multiply(a: i32, b: i32) -> i64
     (a as i64) * (b as i64)
 }
 
-// Whether 32 bits hold x.
-pub fn fits(x: i64) -> bool
-    ensures { λ r. ⌜ r ≡ in32 x ⌝ }
+// n times x.
+pub fn times(n: u32, x: i32) -> i64
+    ensures { λ r. ⌜ r ≡ pos n *ℤ x ⌝ }
 {
-    -2147483648 <= x && x <= 2147483647
+    (n as i64) * (x as i64)
+}
+
+// Whether x lies from lo to hi.
+pub fn between(x: i64, lo: i32, hi: i32) -> bool
+    ensures { λ r. ⌜ r ≡ leZ lo x && leZ x hi ⌝ }
+{
+    (lo as i64) <= x && x <= (hi as i64)
 }
 
 // x itself if 32 bits hold it, else 0.
