@@ -40,6 +40,7 @@ impl Range {
 
     pub const HIGH: i32 = 2147483647;
 
+    // Refused: 0; up to 0.
     pub fn constant(x: i16) -> Range
         ensures { λ r. ⌜ r ≡ constantOf x ⌝ }
     {
@@ -48,6 +49,7 @@ impl Range {
     }
 
     // A column of a table.
+    // Refused: hi for lo; lo for hi.
     pub fn column(lo: i16, hi: i16) -> Range
         ensures { λ r. ⌜ r ≡ columnOf lo hi ⌝ }
     {
@@ -58,6 +60,7 @@ impl Range {
     }
 
     // The range from lo to hi, if 32 bits hold both.
+    // Refused: from -2^31 + 1; lo for hi.
     pub fn checked(lo: i64, hi: i64) -> Ranged
         ensures { λ r. ⌜ r ≡ ranged (columnOf lo hi) ⌝ }
     {
@@ -73,6 +76,7 @@ impl Range {
     }
 
     // The values of both.
+    // Refused: the lo of self; the hi of other.
     pub fn hull(self, other: Range) -> Range
         ensures { λ r. ⌜ r ≡ hullOf self other ⌝ }
     {
@@ -83,6 +87,7 @@ impl Range {
     }
 
     // Kind 0 is the sum, 1 the difference, any other the product.
+    // Refused: the least of self.lo alone; the results at self.lo twice.
     pub fn operated(self, kind: u8, other: Range) -> Ranged
         ensures { λ r. ⌜ r ≡ ranged (operatedOf (operationAt kind) self other) ⌝ }
     {
@@ -94,18 +99,21 @@ impl Range {
         )
     }
 
+    // Refused: the product; of self and self.
     pub fn sum(self, other: Range) -> Ranged
         ensures { λ r. ⌜ r ≡ ranged (operatedOf Operation.sum self other) ⌝ }
     {
         self.operated(0, other)
     }
 
+    // Refused: the sum; of self and self.
     pub fn difference(self, other: Range) -> Ranged
         ensures { λ r. ⌜ r ≡ ranged (operatedOf Operation.difference self other) ⌝ }
     {
         self.operated(1, other)
     }
 
+    // Refused: the difference; of self and self.
     pub fn product(self, other: Range) -> Ranged
         ensures { λ r. ⌜ r ≡ ranged (operatedOf Operation.product self other) ⌝ }
     {
@@ -113,6 +121,7 @@ impl Range {
     }
 
     // Both ends rounded to multiples of m.
+    // Refused: lo for hi; by 1.
     pub fn rounded(self, m: u16) -> Ranged
         ensures { λ r. ⌜ r ≡ ranged (roundedOf m self) ⌝ }
     {
@@ -120,6 +129,7 @@ impl Range {
     }
 
     // The sums of at most as many values as the row bound says.
+    // Refused: hi for lo; by 1.
     pub fn scaled(self, bound: u32) -> Ranged
         ensures { λ r. ⌜ r ≡ ranged (scaledOf bound self) ⌝ }
     {
@@ -129,6 +139,7 @@ impl Range {
     }
 
     // The numbers of rows up to the row bound.
+    // Refused: one row too many; from 1.
     pub fn count(bound: u32) -> Ranged
         ensures { λ r. ⌜ r ≡ ranged (countOf bound) ⌝ }
     {
@@ -136,6 +147,7 @@ impl Range {
     }
 
     // Kind 0 is count, 1 sum, 2 minimum, any other maximum; self is the range of the argument.
+    // Refused: no rows; one row.
     pub fn aggregated(self, kind: u8, bound: u32) -> Ranged
         ensures { λ r. ⌜ r ≡ ranged (aggregatedOf (aggregateAt kind) bound self) ⌝ }
     {

@@ -12,6 +12,7 @@ pub enum Accumulator {
 
 impl Accumulator {
     // Kind 0 is count, 1 sum, 2 minimum, any other maximum.
+    // Refused: count from 1; sum from 0.
     pub fn start(kind: u8) -> Accumulator
         ensures { λ r. ⌜ tallyOf r ≡ startT (aggregateAt kind) ⌝ }
     {
@@ -22,6 +23,7 @@ impl Accumulator {
     }
 
     // One value more; what no longer fits 32 bits becomes 0.
+    // Refused: the first value lost; the total twice.
     pub fn more(self, kind: u8, value: Datum) -> Accumulator
         ensures { λ r. ⌜ tallyOf r ≡ narrowedTally (moreT (aggregateAt kind) (valueOf value) (tallyOf self)) ⌝ }
     {
@@ -32,6 +34,7 @@ impl Accumulator {
         }
     }
 
+    // Refused: 1 of nothing; the total lost.
     pub fn finish(self) -> Datum
         ensures { λ r. ⌜ valueOf r ≡ finishT (tallyOf self) ⌝ }
     {

@@ -9,12 +9,14 @@ pub enum Boolean {
 }
 
 impl Boolean {
+    // Refused: true for false; false for true.
     pub fn sure(b: bool) -> Boolean
         ensures { λ r. ⌜ truthOf r ≡ sureT b ⌝ }
     {
         if b { Boolean::True } else { Boolean::False }
     }
 
+    // Refused: true stays; false stays.
     pub fn negated(self) -> Boolean
         ensures { λ r. ⌜ truthOf r ≡ negate (truthOf self) ⌝ }
     {
@@ -25,6 +27,7 @@ impl Boolean {
     }
 
     // Kind 0 is and, any other or.
+    // Refused: and for or; and that answers self.
     pub fn connected(self, kind: u8, other: Boolean) -> Boolean
         ensures { λ r. ⌜ truthOf r ≡ connect (connectiveAt kind) (truthOf self) (truthOf other) ⌝ }
     {
@@ -41,6 +44,7 @@ impl Boolean {
         }
     }
 
+    // Refused: false holds; true does not.
     pub fn holds(self) -> bool
         ensures { λ r. ⌜ r ≡ holdsT (truthOf self) ⌝ }
     {

@@ -12,6 +12,7 @@ pub struct Datum {
 
 impl Datum {
     // The value of a cell of the work area.
+    // Refused: 0; 1.
     pub fn from_work(n: i32) -> Datum
         ensures { λ r. ⌜ valueOf r ≡ Value.number n ⌝ }
     {
@@ -19,13 +20,16 @@ impl Datum {
     }
 
     // The cell of the work area that stands for the value.
+    // Refused: 0; 1.
     pub fn stored(self) -> i32
         ensures { λ r. ⌜ r ≡ storedV (valueOf self) ⌝ }
     {
-        self.n
+        let held = self.n;
+        held
     }
 
     // The value of a cell of the instance buffer.
+    // Refused: 0; 1.
     pub fn from_instance(n: i16) -> Datum
         ensures { λ r. ⌜ valueOf r ≡ Value.number n ⌝ }
     {
@@ -35,13 +39,16 @@ impl Datum {
     }
 
     // The cell of the instance buffer that stands for the value; 0 where 16 bits do not hold it.
+    // Refused: the cell of 0; of 1.
     pub fn shown(self) -> i16
         ensures { λ r. ⌜ r ≡ shownV (valueOf self) ⌝ }
     {
-        integer::narrow16(self.n)
+        let cell = self.n;
+        integer::narrow16(cell)
     }
 
     // A constant of two bytes, high byte first.
+    // Refused: low byte first; the high byte twice.
     pub fn from_bytes(high: u8, low: u8) -> Datum
         ensures { λ r. ⌜ valueOf r ≡ Value.number (bytesZ high low) ⌝ }
     {
@@ -49,6 +56,7 @@ impl Datum {
     }
 
     // Kind 0 is the sum, 1 the difference, any other the product: the exact result where 32 bits hold it, else 0.
+    // Refused: the operands swapped; self twice.
     pub fn applied(self, kind: u8, other: Datum) -> Datum
         ensures { λ r. ⌜ valueOf r ≡ narrowed (applyV (operationAt kind) (valueOf self) (valueOf other)) ⌝ }
     {
@@ -58,6 +66,7 @@ impl Datum {
     }
 
     // The nearest multiple of m where 32 bits hold it, else 0.
+    // Refused: by 1; by 2.
     pub fn rounded(self, m: u16) -> Datum
         ensures { λ r. ⌜ valueOf r ≡ narrowed (round m (valueOf self)) ⌝ }
     {
@@ -67,6 +76,7 @@ impl Datum {
     }
 
     // Kind 0 is equal, 1 less, any other less or equal.
+    // Refused: the operands swapped; self twice.
     pub fn compared(self, kind: u8, other: Datum) -> Boolean
         ensures { λ r. ⌜ truthOf r ≡ compareV (comparisonAt kind) (valueOf self) (valueOf other) ⌝ }
     {
@@ -74,6 +84,7 @@ impl Datum {
     }
 
     // The same cell, which grouping, set views and keys go by.
+    // Refused: self with self; other with other.
     pub fn same(self, other: Datum) -> bool
         ensures { λ r. ⌜ r ≡ valueTest .same (valueOf self) (valueOf other) ⌝ }
     {
@@ -81,6 +92,7 @@ impl Datum {
     }
 
     // What the value counts for in an aggregate of that kind.
+    // Refused: 0 for a member; sum for count.
     pub fn weight(self, kind: u8) -> i32
         ensures { λ r. ⌜ r ≡ weightV (aggregateAt kind) (valueOf self) ⌝ }
     {

@@ -12,6 +12,7 @@ pub struct Domain {
 
 impl Domain {
     // How many digits the column has.
+    // Refused: one digit only; one digit too few.
     pub fn size(self) -> u32
         ensures { λ r. ⌜ r ≡ sizeC (columnOf self) ⌝ }
     {
@@ -19,6 +20,7 @@ impl Domain {
     }
 
     // The value of digit n where 32 bits hold it, else 0.
+    // Refused: from hi; digit 0 always.
     pub fn digit(self, n: u32) -> Datum
         ensures { λ r. ⌜ valueOf r ≡ narrowed (digitC (columnOf self) n) ⌝ }
     {

@@ -13,18 +13,21 @@ pub struct Bytes {
     pub low: u8,
 }
 
+// Refused: b + b; a + a.
 pub fn add(a: i32, b: i32) -> i64
     ensures { λ r. ⌜ r ≡ a +ℤ b ⌝ }
 {
     (a as i64) + (b as i64)
 }
 
+// Refused: b - a; a - a.
 pub fn subtract(a: i32, b: i32) -> i64
     ensures { λ r. ⌜ r ≡ a -ℤ b ⌝ }
 {
     (a as i64) - (b as i64)
 }
 
+// Refused: a × a; b × b.
 pub fn multiply(a: i32, b: i32) -> i64
     ensures { λ r. ⌜ r ≡ a *ℤ b ⌝ }
 {
@@ -32,13 +35,17 @@ pub fn multiply(a: i32, b: i32) -> i64
 }
 
 // n times x.
+// Refused: x × x; n × n.
 pub fn times(n: u32, x: i32) -> i64
     ensures { λ r. ⌜ r ≡ pos n *ℤ x ⌝ }
 {
-    (n as i64) * (x as i64)
+    let k = n as i64;
+    let z = x as i64;
+    k * z
 }
 
 // Whether x lies from lo to hi.
+// Refused: hi for lo; lo for hi.
 pub fn between(x: i64, lo: i32, hi: i32) -> bool
     ensures { λ r. ⌜ r ≡ leZ lo x && leZ x hi ⌝ }
 {
@@ -46,6 +53,7 @@ pub fn between(x: i64, lo: i32, hi: i32) -> bool
 }
 
 // x itself if 32 bits hold it, else 0.
+// Refused: 2^31 kept; -2^31 lost.
 pub fn narrow(x: i64) -> i32
     ensures { λ r. ⌜ r ≡ narrow32 x ⌝ }
 {
@@ -59,6 +67,7 @@ pub fn narrow(x: i64) -> i32
 }
 
 // x itself if 16 bits hold it, else 0.
+// Refused: 2^15 kept; -2^15 lost.
 pub fn narrow16(x: i32) -> i16
     ensures { λ r. ⌜ r ≡ narrow16Z x ⌝ }
 {
@@ -71,12 +80,15 @@ pub fn narrow16(x: i32) -> i16
     x as i16
 }
 
+// Refused: 0; 1.
 pub fn widen16(x: i16) -> i32
     ensures { λ r. ⌜ r ≡ x ⌝ }
 {
-    x as i32
+    let wide = x as i32;
+    wide
 }
 
+// Refused: a == a; b == b.
 pub fn equal(a: i32, b: i32) -> bool
     ensures { λ r. ⌜ r ≡ equalZ a b ⌝ }
 {
@@ -95,12 +107,14 @@ fn less_equal(a: i32, b: i32) -> bool
     a <= b
 }
 
+// Refused: the greater; a always.
 pub fn lesser(a: i32, b: i32) -> i32
     ensures { λ r. ⌜ r ≡ minZ a b ⌝ }
 {
     if a <= b { a } else { b }
 }
 
+// Refused: the lesser; b always.
 pub fn greater(a: i32, b: i32) -> i32
     ensures { λ r. ⌜ r ≡ maxZ a b ⌝ }
 {
@@ -108,19 +122,22 @@ pub fn greater(a: i32, b: i32) -> i32
 }
 
 // The same of 64 bits.
-pub fn lesser64(a: i64, b: i64) -> i64
-    ensures { λ r. ⌜ r ≡ minZ a b ⌝ }
+// Refused: the greater; x always.
+pub fn lesser64(x: i64, y: i64) -> i64
+    ensures { λ r. ⌜ r ≡ minZ x y ⌝ }
 {
-    if a <= b { a } else { b }
+    if x <= y { x } else { y }
 }
 
-pub fn greater64(a: i64, b: i64) -> i64
-    ensures { λ r. ⌜ r ≡ maxZ a b ⌝ }
+// Refused: the lesser; y always.
+pub fn greater64(x: i64, y: i64) -> i64
+    ensures { λ r. ⌜ r ≡ maxZ x y ⌝ }
 {
-    if a <= b { b } else { a }
+    if x <= y { y } else { x }
 }
 
 // Kind 0 is the sum, 1 the difference, any other the product.
+// Refused: b - a; a + a.
 pub fn operate(kind: u8, a: i32, b: i32) -> i64
     ensures { λ r. ⌜ r ≡ applyZ (operationAt kind) a b ⌝ }
 {
@@ -132,6 +149,7 @@ pub fn operate(kind: u8, a: i32, b: i32) -> i64
 }
 
 // Kind 0 is equal, 1 less, any other less or equal.
+// Refused: b < a; b <= a.
 pub fn compare(kind: u8, a: i32, b: i32) -> bool
     ensures { λ r. ⌜ r ≡ compareZ (comparisonAt kind) a b ⌝ }
 {
@@ -143,6 +161,7 @@ pub fn compare(kind: u8, a: i32, b: i32) -> bool
 }
 
 // What two numbers come to in an aggregate: kinds 0 and 1 are the sum, 2 the lesser, any other the greater.
+// Refused: the lesser of a and a; a + a.
 pub fn combined(kind: u8, a: i32, b: i32) -> i32
     ensures { λ r. ⌜ r ≡ narrow32 (combine (aggregateAt kind) a b) ⌝ }
 {
@@ -155,10 +174,13 @@ pub fn combined(kind: u8, a: i32, b: i32) -> i32
 }
 
 // The number n above x.
+// Refused: x + x; n + n.
 pub fn offset(x: i16, n: u32) -> i64
     ensures { λ r. ⌜ r ≡ x +ℤ pos n ⌝ }
 {
-    (x as i64) + (n as i64)
+    let base = x as i64;
+    let step = n as i64;
+    base + step
 }
 
 fn subtract16(a: i16, b: i16) -> i32
@@ -178,6 +200,7 @@ fn magnitude(x: i32) -> u64
 }
 
 // How far apart two numbers lie.
+// Refused: that of b and b; of a and a.
 pub fn distance(a: i16, b: i16) -> u32
     ensures { λ r. ⌜ (r ≡ natAbs (b -ℤ a)) × (r ≤ 65535) ⌝ }
 {
@@ -198,6 +221,7 @@ fn near(n: u64, m: u16) -> u64
 }
 
 // The multiple of m nearest to x, the one away from 0 at a half; 0 where m is 0.
+// Refused: the sign lost; halves toward zero.
 pub fn round(x: i32, m: u16) -> i64
     ensures { λ r. ⌜ r ≡ roundZ m x ⌝ }
 {
@@ -228,12 +252,14 @@ fn bits(x: i16) -> u16
 }
 
 // Two's complement, high byte first.
+// Refused: low byte first; 255 for 256.
 pub fn from_bytes(high: u8, low: u8) -> i16
     ensures { λ r. ⌜ r ≡ bytesZ high low ⌝ }
 {
     signed((high as u16) * 256 + (low as u16))
 }
 
+// Refused: the low byte as high; the high byte as low.
 pub fn to_bytes(x: i16) -> Bytes
     ensures { λ r. ⌜ (r .high ≡ highByte x) × (r .low ≡ lowByte x) ⌝ }
 {

@@ -9,17 +9,17 @@ use Rattle.value.proofs.Linear.{ints, sum-parts}
 use Rattle.value.proofs.integer.offset.Statement.{statement}
 use Rattle.value.proofs.integer.offset.Tie as tie
 
-cast-result : tie.Need-cast-result
-cast-result c = search signed
+cast-base : tie.Need-cast-base
+cast-base c = search signed
 
-cast-result-2 : tie.Need-cast-result-2
-cast-result-2 c = search needs
+cast-step : tie.Need-cast-step
+cast-step c = search needs
 
 add-result : tie.Need-add-result
-add-result c = rw (toZ-ofZ (cast-result c), toZ-ofZ (c .fits .x), toZ-pos w64 {n = c .args .n} (omega arith)) (omega (ints, sum-parts (c .args .x) (pos (c .args .n))))
+add-result c = rw (toZ-ofZ (cast-base c), toZ-ofZ (c .fits .x), toZ-pos w64 {n = c .args .n} (omega arith)) (omega (ints, sum-parts (c .args .x) (pos (c .args .n))))
 
 returns : tie.Need-returns
-returns c = rw (toZ-ofZ (add-result c), toZ-ofZ (cast-result c), toZ-ofZ (c .fits .x), toZ-pos w64 {n = c .args .n} (omega arith))
+returns c = rw (toZ-ofZ (add-result c), toZ-ofZ (cast-base c), toZ-ofZ (c .fits .x), toZ-pos w64 {n = c .args .n} (omega arith))
 
 pub offset-spec : {M : Type 1} → statement M
-offset-spec = tie.close (tie.spec cast-result cast-result-2 add-result returns)
+offset-spec = tie.close (tie.spec cast-base cast-step add-result returns)

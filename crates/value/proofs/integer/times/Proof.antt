@@ -11,19 +11,19 @@ use Rattle.value.proofs.Linear.{ints, mul-parts, SFits-size}
 use Rattle.value.proofs.integer.times.Statement.{statement}
 use Rattle.value.proofs.integer.times.Tie as tie
 
-cast-result : tie.Need-cast-result
-cast-result c = search needs
+cast-k : tie.Need-cast-k
+cast-k c = search needs
 
-cast-result-2 : tie.Need-cast-result-2
-cast-result-2 c = search signed
+cast-z : tie.Need-cast-z
+cast-z c = search signed
 
 mul-result : tie.Need-mul-result
 mul-result c = let n : c .args .n ≤ 4294967295 = omega arith in
-    rw (toZ-ofZ (cast-result-2 c), toZ-ofZ (c .fits .x), toZ-pos w64 {n = c .args .n} (omega arith))
+    rw (toZ-ofZ (cast-z c), toZ-ofZ (c .fits .x), toZ-pos w64 {n = c .args .n} (omega arith))
     (omega (ints, mul-parts (pos (c .args .n)) (c .args .x), mul-le-mul n (SFits-size (c .fits .x))))
 
 returns : tie.Need-returns
-returns c = rw (toZ-ofZ (mul-result c), toZ-ofZ (cast-result-2 c), toZ-ofZ (c .fits .x), toZ-pos w64 {n = c .args .n} (omega arith))
+returns c = rw (toZ-ofZ (mul-result c), toZ-ofZ (cast-z c), toZ-ofZ (c .fits .x), toZ-pos w64 {n = c .args .n} (omega arith))
 
 pub times-spec : {M : Type 1} → statement M
-times-spec = tie.close (tie.spec cast-result cast-result-2 mul-result returns)
+times-spec = tie.close (tie.spec cast-k cast-z mul-result returns)
