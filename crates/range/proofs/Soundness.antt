@@ -5,9 +5,9 @@ use Prim.Native.Nat.{ℕ, zero, suc, _≤_}
 use lib.IntN.{ℤ}
 use lib.ListN.{length}
 use Rattle.value.specs.Bag.{All}
-use Rattle.value.specs.Value.{Operation, Aggregate, aggregateAt, Value, apply, round, total, Column, Within}
+use Rattle.value.specs.Value.{Operation, Aggregate, aggregateAt, Value, apply, round, tally, total, TallyBetween, Column, Within}
 use Rattle.value.proofs.Order.{min-below, max-above}
-use Rattle.value.proofs.Values.{between-wider, between-self, apply-between, round-between, tally, TallyBetween, count-between, sum-tally, minimum-tally, maximum-tally, total-between}
+use Rattle.value.proofs.Values.{between-wider, between-self, apply-between, round-between, count-between, sum-tally, minimum-tally, maximum-tally, total-between}
 use Rattle.range.specs.Ranges.{Inside, constantOf, columnOf, hullOf, operatedOf, roundedOf, aggregatedOf}
 use Rattle.range.specs.declared.Range.{Range}
 

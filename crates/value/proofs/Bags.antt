@@ -4,7 +4,7 @@ use mathlib.Core.Bool.{Bool, true, false, cond}
 use mathlib.Core.List.{List, [], _∷_, _++_, foldr}
 use Prim.Native.Nat.{ℕ, zero, suc, _<_}
 use native.Mathlib.Omega.{arith}
-use Rattle.value.specs.Bag.{Test, tick, count, Same}
+use Rattle.value.specs.Bag.{Test, tick, count, Same, remove}
 use Rattle.value.proofs.Decides.{by-test}
 
 pub tick-comm : (a b : Bool) (n : ℕ) → tick a (tick b n) ≡ tick b (tick a n)
@@ -27,14 +27,9 @@ fold-snoc f c z [] x = refl
 fold-snoc f c z (y ∷ xs) x = rw (fold-snoc f c z xs x) (c y x (foldr f z xs))
 
 module _ {A : Type 0} (E : Test A) where
-  -- without the first occurrence of a
-  abbrev pub remove : A → List A → List A
-  remove a [] = []
-  remove a (x ∷ xs) = cond (E .same a x) xs (x ∷ remove a xs)
-
   -- an element that occurs can be taken out of a fold
   pub pulled : {B : Type 0} (f : A → B → B) → Commutes f → (z : B) (a : A) (S : List A) → 0 < count E a S
-      → foldr f z S ≡ f a (foldr f z (remove a S))
+      → foldr f z S ≡ f a (foldr f z (remove E a S))
   pulled f c z a [] h = absurd (omega arith)
   pulled f c z a (x ∷ S) h = by-test (E .same a x)
       (λ e. let ax : a ≡ x = E .sound a x e in rw e (rw ax))
@@ -45,7 +40,7 @@ module _ {A : Type 0} (E : Test A) where
   nil-only {S = x ∷ S} h = absurd (let e : _≡_ {A = ℕ} 0 (suc (count E x S)) = rw (E .self x) at (h .at x) in omega arith)
 
   -- the first element is in the other list, and the rest are the rest
-  pub same-tail : {x : A} {R S : List A} → Same E (x ∷ R) S → (0 < count E x S) × Same E R (remove x S)
+  pub same-tail : {x : A} {R S : List A} → Same E (x ∷ R) S → (0 < count E x S) × Same E R (remove E x S)
   same-tail {x} {R} {S} h =
       let e : suc (count E x R) ≡ count E x S = rw (E .self x) at (h .at x) in
       let in-S : 0 < count E x S = omega arith in

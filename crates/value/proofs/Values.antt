@@ -11,7 +11,7 @@ use lib.ListN.{length}
 use lib.Signed.{_≤ℤ_}
 use Rattle.value.specs.Bag.{All, Same}
 use Rattle.value.specs.Integer.{low32, high32, low16, high16, minZ, maxZ, leastEnd, greatestEnd, roundZ}
-use Rattle.value.specs.Value.{Operation, operationAt, applyZ, Comparison, comparisonAt, Connective, connectiveAt, Aggregate, aggregateAt, sure, negate, holds, Value, apply, round, valueTest, Tally, start, combine, weight, gather, more, finish, total, Between, between, Held, narrowed, narrowedTally, stored, shown, Column, Within, within, size, digit}
+use Rattle.value.specs.Value.{Operation, operationAt, applyZ, Comparison, comparisonAt, Connective, connectiveAt, Aggregate, aggregateAt, sure, negate, holds, Value, apply, round, valueTest, Tally, start, combine, weight, gather, more, finish, tally, total, TallyBetween, TallyHeld, Between, between, Held, narrowed, narrowedTally, stored, shown, Column, Within, within, size, digit}
 use Rattle.value.proofs.Decides.{Decides, and-dec, by-dec}
 use Rattle.value.proofs.Linear.{‵, _⊕_, _⊗_, ≤-by, ≤-to, ≤-parts, sum-parts, diff-parts, magnitude-parts, ints}
 use Rattle.value.proofs.Order.{≤-trans, ≤-self, ≤-dec, min-below, max-above, below-min, above-max, min-comm, max-comm, min-assoc, max-assoc, In, sum-hull, difference-hull, product-hull, multiple-low, multiple-high}
@@ -130,23 +130,16 @@ more-comm op v w t = gather-comm op (weight op v) (weight op w) t
 pub total-bag : (op : Aggregate) {vs ws : List Value} → Same valueTest vs ws → total op vs ≡ total op ws
 total-bag op h = ap finish (fold-bag (more op) (more-comm op) (start op) h)
 
--- the running aggregate of a list of values, and one value more
-abbrev pub tally : Aggregate → List Value → Tally
-tally op vs = foldr (more op) (start op) vs
-
+-- one value more
 pub tally-snoc : (op : Aggregate) (vs : List Value) (v : Value) → tally op (vs ++ (v ∷ [])) ≡ more op v (tally op vs)
 tally-snoc op vs v = fold-snoc (more op) (more-comm op) (start op) vs v
 
 -- ---- aggregates of bounded values are bounded, at each step
-pub data TallyBetween (lo hi : ℤ) : Tally → Type 0 where
-  nothing : TallyBetween lo hi none
-  number : {z : ℤ} → lo ≤ℤ z → z ≤ℤ hi → TallyBetween lo hi (some z)
-
 pub tally-wider : {l h l′ h′ : ℤ} {t : Tally} → l′ ≤ℤ l → h ≤ℤ h′ → TallyBetween l h t → TallyBetween l′ h′ t
 tally-wider p q TallyBetween.nothing = TallyBetween.nothing
 tally-wider p q (TallyBetween.number a b) = TallyBetween.number (≤-trans p a) (≤-trans b q)
 
-pub held-tally : {t : Tally} → TallyBetween low32 high32 t → narrowedTally t ≡ t
+pub held-tally : {t : Tally} → TallyHeld t → narrowedTally t ≡ t
 unfolding narrowedTally
 held-tally TallyBetween.nothing = refl
 held-tally (TallyBetween.number a b) = ap some (narrow32-held a b)

@@ -1,6 +1,6 @@
 -- Lists counted as bags: of a bag only the multiplicities of its elements count. Assumes nothing: these are definitions.
 use mathlib.Core.Path.{_≡_}
-use mathlib.Core.Bool.{Bool, true, false}
+use mathlib.Core.Bool.{Bool, true, false, cond}
 use mathlib.Core.List.{List, [], _∷_, foldr}
 use Prim.Native.Nat.{ℕ, zero, suc}
 
@@ -32,3 +32,8 @@ module _ {A : Type 0} (E : Test A) where
   -- two lists are one bag
   pub record Same (R S : List A) : Type 0 where
     pub at : (a : A) → count a R ≡ count a S
+
+  -- without the first occurrence of a
+  abbrev pub remove : A → List A → List A
+  remove a [] = []
+  remove a (x ∷ xs) = cond (E .same a x) xs (x ∷ remove a xs)

@@ -163,8 +163,12 @@ unfoldable pub finish : Tally → Value
 finish none = Value.number (pos 0)
 finish (some z) = Value.number z
 
+-- the running aggregate of a list of values, and the aggregate
+abbrev pub tally : Aggregate → List Value → Tally
+tally op vs = foldr (more op) (start op) vs
+
 abbrev pub total : Aggregate → List Value → Value
-total op vs = finish (foldr (more op) (start op) vs)
+total op vs = finish (tally op vs)
 
 -- ---- what lies between two whole numbers, and what 32 bits hold
 
@@ -174,8 +178,15 @@ pub data Between (lo hi : ℤ) : Value → Type 0 where
 unfoldable pub between : ℤ → ℤ → Value → Bool
 between lo hi (Value.number z) = leZ lo z && leZ z hi
 
+pub data TallyBetween (lo hi : ℤ) : Tally → Type 0 where
+  nothing : TallyBetween lo hi none
+  number : {z : ℤ} → lo ≤ℤ z → z ≤ℤ hi → TallyBetween lo hi (some z)
+
 abbrev pub Held : Value → Type 0
 Held v = Between low32 high32 v
+
+abbrev pub TallyHeld : Tally → Type 0
+TallyHeld t = TallyBetween low32 high32 t
 
 -- the value itself where 32 bits hold it, else 0
 unfoldable pub narrowed : Value → Value

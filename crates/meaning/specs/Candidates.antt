@@ -1,0 +1,48 @@
+-- Candidates: "The cells of tables, rows, columns, in that order, are the digits of a candidate number, first cell most significant,
+-- digit = value - lo." Assumes nothing: these are definitions, and they compute.
+use mathlib.Core.List.{List, [], _∷_, _++_, foldr}
+use Prim.Native.Nat.{ℕ, zero, suc, _*_, _/_, _%_}
+use lib.ListN.{length, take, drop}
+use Rattle.value.specs.Value.{Value, Column, size, digit}
+use Rattle.meaning.specs.Lists.{copies}
+use Rattle.meaning.specs.Syntax.{Table, File, Database}
+
+-- the column of each cell
+abbrev pub cellColumns : List Table → List Column
+cellColumns [] = []
+cellColumns (t ∷ ts) = copies (t .rows) (t .columns) ++ cellColumns ts
+
+-- "The number N of candidates is the product of the column sizes, 1 with no cells": one factor for each cell
+abbrev pub product : List Column → ℕ
+product [] = 1
+product (c ∷ cs) = size c * product cs
+
+-- the cells of candidate k
+abbrev pub values : List Column → ℕ → List Value
+values [] k = []
+values (c ∷ cs) k = digit c (k / product cs % size c) ∷ values cs k
+
+-- a list of cells, cut into rows of w and these into tables
+abbrev pub cutRows : {A : Type 0} → ℕ → ℕ → List A → List (List A)
+cutRows zero w xs = []
+cutRows (suc n) w xs = take w xs ∷ cutRows n w (drop w xs)
+
+abbrev pub cut : {A : Type 0} → List Table → List A → List (List (List A))
+cut [] xs = []
+cut (t ∷ ts) xs =
+    let w = length (t .columns) in
+    cutRows (t .rows) w xs ∷ cut ts (drop (t .rows * w) xs)
+
+module _ (F : File) where
+  abbrev pub cellCount : ℕ
+  cellCount = length (cellColumns (F .tables))
+
+  unfoldable pub candidates : ℕ
+  candidates = product (cellColumns (F .tables))
+
+  unfoldable pub cells : ℕ → List Value
+  cells k = values (cellColumns (F .tables)) k
+
+  -- the database of candidate k
+  unfoldable pub database : ℕ → Database
+  database k = cut (F .tables) (cells k)
