@@ -1,0 +1,27 @@
+-- The rules of a well-formed file, one by one. Assumes nothing.
+use mathlib.Core.Path.{_≡_}
+use mathlib.Core.Bool.{true}
+use Rattle.value.proofs.Decides.{and-parts}
+use Rattle.meaning.specs.Bounds.{aggregatesFit, bounded, earlier, everyView, goalNamesRelation, ordered, rangesFit, sameWidth, wellFormed}
+use Rattle.meaning.specs.Lists.{all}
+use Rattle.meaning.specs.Syntax.{File}
+
+pub record Rules (F : File) : Type 0 where
+  pub columns : all ordered (F .tables) ≡ true
+  pub earlier-views : everyView earlier F ≡ true
+  pub widths : everyView sameWidth F ≡ true
+  pub aggregates : everyView aggregatesFit F ≡ true
+  pub bounds : everyView bounded F ≡ true
+  pub ranges : everyView rangesFit F ≡ true
+  pub goal : goalNamesRelation F (F .goal) ≡ true
+
+pub rules : (F : File) → wellFormed F ≡ true → Rules F
+unfolding wellFormed
+rules F w =
+    let a = and-parts (all ordered (F .tables)) _ w in
+    let b = and-parts (everyView earlier F) _ (a .1) in
+    let c = and-parts (everyView sameWidth F) _ (b .1) in
+    let d = and-parts (everyView aggregatesFit F) _ (c .1) in
+    let e = and-parts (everyView bounded F) _ (d .1) in
+    let f = and-parts (everyView rangesFit F) _ (e .1) in
+    record { columns = a .0; earlier-views = b .0; widths = c .0; aggregates = d .0; bounds = e .0; ranges = f .0; goal = f .1 }
