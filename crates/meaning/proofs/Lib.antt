@@ -1,4 +1,6 @@
 -- The theorems on the meaning, lowest first.
+pub mod Readers
+pub mod PrefixForms
 pub mod ListBags
 pub mod ListSteps
 pub mod Alike
