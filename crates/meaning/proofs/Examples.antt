@@ -4,10 +4,10 @@ use mathlib.Core.Path.{_≡_, refl}
 use mathlib.Core.Bool.{Bool, true, false}
 use mathlib.Core.List.{List, [], _∷_, map}
 use Prim.Native.Nat.{ℕ}
-use lib.IntN.{pos}
+use lib.IntN.{ℤ, pos, negsuc}
 use Rattle.value.specs.Bag.{All}
-use Rattle.value.specs.Integer.{maxZ, minZ}
-use Rattle.value.specs.Value.{Aggregate, Comparison, Value, apply, between, compare, finish, holds, more, negate, sameValue, start, sure, weight}
+use Rattle.value.specs.Integer.{maxZ, minZ, roundZ, stepsUp}
+use Rattle.value.specs.Value.{Aggregate, Comparison, Value, apply, between, compare, finish, holds, more, negate, round, sameValue, start, sure, weight}
 use Rattle.value.proofs.Decides.{Decides, dec-true}
 use Rattle.value.proofs.Values.{all-map}
 use Rattle.meaning.specs.Algebra.{MeaningOf}
@@ -80,6 +80,16 @@ tree =
 abbrev two : ℕ → ℕ → Row
 two m n = Value.number (pos m) ∷ Value.number (pos n) ∷ []
 
+-- M3's numbers, and what they round to by 10
+abbrev numbers : List ℤ
+numbers = pos 14 ∷ pos 15 ∷ negsuc 14 ∷ negsuc 13 ∷ pos 5 ∷ negsuc 4 ∷ pos 0 ∷ []
+
+abbrev rounded : List ℤ
+rounded = pos 10 ∷ pos 20 ∷ negsuc 19 ∷ negsuc 9 ∷ pos 10 ∷ negsuc 9 ∷ pos 0 ∷ []
+
+abbrev integers : List ℤ → List Row
+integers zs = map (λ z. Value.number z ∷ []) zs
+
 samples : List Sample
 samples =
     -- M1: 6 is no case and 9 is. M2: neither is a negative case
@@ -87,6 +97,15 @@ samples =
     ∷ record { file = overview false; db = column (9 ∷ []) ∷ []; last = column (9 ∷ []); case = true }
     ∷ record { file = overview true; db = column (6 ∷ []) ∷ []; last = []; case = false }
     ∷ record { file = overview true; db = column (9 ∷ []) ∷ []; last = column (9 ∷ []); case = false }
+    -- M3: rounding by 10
+    ∷ record {
+      file =
+          file (record { rows = 7; columns = record { lo = negsuc 14; hi = pos 15 } ∷ []; key = false ∷ [] } ∷ [])
+          (View.basic (0 ∷ []) Cond.always (Expr.rounding 10 a ∷ []) ∷ []) 1 false;
+      db = integers numbers ∷ [];
+      last = integers rounded;
+      case = true;
+    }
     -- M4: 7 found 2 and 1 times
     ∷ record {
       file = pair (View.union 2 3);
@@ -162,12 +181,12 @@ unfolding Computed Right
 right s (w, r, c) = let F = s .file in (rw r at (rows-mean F (s .db) (F .goal .view)), decided (cases F w (s .db)) (s .case) c)
 
 computed : All Computed samples
-unfolding samples Computed isCase valid someRow wellFormed apply compare sure holds negate sameValue between start weight more finish minZ maxZ
+unfolding samples Computed isCase valid someRow wellFormed apply compare sure holds negate sameValue between start weight more finish minZ maxZ round roundZ stepsUp
 computed =
     All.cons (refl, refl, refl) (All.cons (refl, refl, refl) (All.cons (refl, refl, refl) (All.cons (refl, refl, refl)
     (All.cons (refl, refl, refl) (All.cons (refl, refl, refl) (All.cons (refl, refl, refl) (All.cons (refl, refl, refl)
     (All.cons (refl, refl, refl) (All.cons (refl, refl, refl) (All.cons (refl, refl, refl) (All.cons (refl, refl, refl)
-    (All.cons (refl, refl, refl) (All.cons (refl, refl, refl) (All.cons (refl, refl, refl) (All.cons (refl, refl, refl) All.nil)))))))))))))))
+    (All.cons (refl, refl, refl) (All.cons (refl, refl, refl) (All.cons (refl, refl, refl) (All.cons (refl, refl, refl) (All.cons (refl, refl, refl) All.nil))))))))))))))))
 
 samples-right : All Right samples
 samples-right = all-map right computed

@@ -1,17 +1,34 @@
 -- The theorems on the meaning, lowest first.
+-- prefix forms are read in one way
 pub mod Readers
 pub mod PrefixForms
+-- lists, bags and stacks
+pub mod Elements
+pub mod DecidedLists
 pub mod ListBags
 pub mod ListSteps
+pub mod Sizes
+pub mod Stacks
+-- demand 2: views are the algebra's, cases the paper's, and the order of rows does not count
 pub mod Alike
 pub mod Operations
-pub mod Stacks
 pub mod Relations
-pub mod DecidedLists
 pub mod DecidedValidity
 pub mod DecidedCases
 pub mod RowOrder
 pub mod WellFormed
 pub mod Demand2
 pub mod PaperFacts
+-- ranges hold every value, and 32 bits every result
+pub mod Spread
+pub mod RangeOfValue
+pub mod ViewRanges
+pub mod RangesHold
+-- candidates are numbered, and demand 3
+pub mod Digits
+pub mod Numbering
+pub mod Seeks
+pub mod ListOfLooks
+pub mod RefutedLooks
+pub mod Demand3
 pub mod Examples

@@ -1,17 +1,18 @@
--- Stacks: what stands at each place of one, over what stands before it. Assumes nothing.
-use mathlib.Core.Path.{_≡_, refl, sym, ap₂, _∙_}
-use mathlib.Core.Bool.{Bool, true, false}
+-- Stacks: what stands at each place of one, over what stands before it, and what a step keeps on two stacks side by side. Assumes nothing.
+use mathlib.Core.Path.{_≡_, refl, sym, ap, ap₂, _∙_}
+use mathlib.Core.Bool.{Bool, true, false, _&&_, cond}
 use mathlib.Core.List.{List, [], _∷_, _++_}
-use mathlib.Core.Option.{some, Option·none-ne-some}
+use mathlib.Core.Option.{Option, none, some, Option·none-ne-some}
 use Prim.Native.Nat.{ℕ, zero, suc, _+_, _<_, _≤_}
 use native.Mathlib.Nat.{add-zero}
 use native.Mathlib.Omega.{arith}
 use lib.Dec.{ltb}
-use lib.ListN.{length, getD, getElem?, take, length-append, List·getD-append}
+use lib.ListN.{length, getD, getElem?, take, drop, length-append, length-take, take-append-drop, List·getD-append, List·getD-eq-default}
 use lib.Seq.{getD-append-seam, take-append-le, take-at}
 use borrow.Author.Tests.{ltb-true, ltb-false}
 use Rattle.value.proofs.Decides.{by-test, and-parts}
-use Rattle.meaning.specs.Lists.{stack, stackAll}
+use Rattle.meaning.specs.Lists.{Each, stack, stackAll}
+use Rattle.meaning.proofs.Elements.{each-append}
 
 -- the two cases of an order, as facts
 pub by-lt {ℓ} : (m n : ℕ) {P : Type ℓ} → (ltb m n ≡ true → m < n → P) → (ltb m n ≡ false → n ≤ m → P) → P
@@ -77,3 +78,53 @@ module _ {A B : Type 0} (f : List B → A → B) where
       let b = f bs y in
       let l : length (bs ++ (b ∷ [])) + k ≡ length bs + suc k = rw (length-snoc bs b) (omega arith) in
       rw l at (stackAll-at p xs (bs ++ (b ∷ [])) (and-parts (p bs y) (stackAll f p xs (bs ++ (b ∷ []))) t .1) k x e)
+
+  pub stack-append : (xs ys : List A) (bs : List B) → stack f (xs ++ ys) bs ≡ stack f ys (stack f xs bs)
+  stack-append [] ys bs = refl
+  stack-append (x ∷ xs) ys bs = stack-append xs ys (bs ++ (f bs x ∷ []))
+
+  -- what stands before element k, read from the whole stack
+  pub stack-before : (d : B) (xs : List A) (bs : List B) (k : ℕ) → k ≤ length xs → (i : ℕ)
+      → getD (stack f (take k xs) bs) i d ≡ cond (ltb i (length bs + k)) (getD (stack f xs bs) i d) d
+  stack-before d xs bs k h i =
+      let before = stack f (take k xs) bs in
+      let l : length before ≡ length bs + k = length-stack (take k xs) bs ∙ omega (arith, length-take k xs) in
+      let e : stack f xs bs ≡ stack f (drop k xs) before = ap (λ ys. stack f ys bs) (sym (take-append-drop k xs)) ∙ stack-append (take k xs) (drop k xs) bs in
+      by-lt i (length bs + k)
+      (λ t u. rw (t, e) (sym (stack-keeps d (drop k xs) before i (rw l u))))
+      (λ t u. rw t (List·getD-eq-default before d (rw l u)))
+
+  -- two rules that hold everywhere hold together
+  pub stack-both : (p q : List B → A → Bool) (xs : List A) (bs : List B) → stackAll f p xs bs ≡ true → stackAll f q xs bs ≡ true
+      → stackAll f (λ bs x. p bs x && q bs x) xs bs ≡ true
+  stack-both p q [] bs h k = refl
+  stack-both p q (x ∷ xs) bs h k =
+      let bs′ = bs ++ (f bs x ∷ []) in
+      let (h₁, h₂) = and-parts (p bs x) (stackAll f p xs bs′) h in
+      let (k₁, k₂) = and-parts (q bs x) (stackAll f q xs bs′) k in
+      rw (h₁, k₁) (stack-both p q xs bs′ h₂ k₂)
+
+-- ---- two stacks over the same elements, side by side
+
+module _ {A B C : Type 0} (f : List B → A → B) (g : List C → A → C) (p : List B → A → Bool) (P : B → C → Type 0) (Q : List C → A → Type 0)
+    (step : (bs : List B) (cs : List C) (x : A) → Each P bs cs → p bs x ≡ true → P (f bs x) (g cs x) × Q cs x) where
+  -- where the rule holds of every element, the stacks correspond
+  pub stacks-each : (xs : List A) (bs : List B) (cs : List C) → stackAll f p xs bs ≡ true → Each P bs cs → Each P (stack f xs bs) (stack g xs cs)
+  stacks-each [] bs cs h e = e
+  stacks-each (x ∷ xs) bs cs h e =
+      let bs′ = bs ++ (f bs x ∷ []) in
+      let (h₁, h₂) = and-parts (p bs x) (stackAll f p xs bs′) h in
+      stacks-each xs bs′ (cs ++ (g cs x ∷ [])) h₂ (each-append e (Each.cons (step bs cs x e h₁ .0) Each.nil))
+
+  -- and of each element the step's other fact holds, over what stands before it
+  pub stacks-at : (xs : List A) (bs : List B) (cs : List C) → stackAll f p xs bs ≡ true → Each P bs cs
+      → (k : ℕ) (x : A) → getElem? xs k ≡ some x → Q (stack g (take k xs) cs) x
+  stacks-at [] bs cs h e k x at = absurd (Option·none-ne-some x at)
+  stacks-at (y ∷ xs) bs cs h e zero x at =
+      let (h₁, h₂) = and-parts (p bs y) (stackAll f p xs (bs ++ (f bs y ∷ []))) h in
+      let yx : y ≡ x = cc in
+      rw yx at (step bs cs y e h₁ .1)
+  stacks-at (y ∷ xs) bs cs h e (suc k) x at =
+      let bs′ = bs ++ (f bs y ∷ []) in
+      let (h₁, h₂) = and-parts (p bs y) (stackAll f p xs bs′) h in
+      stacks-at xs bs′ (cs ++ (g cs y ∷ [])) h₂ (each-append e (Each.cons (step bs cs y e h₁ .0) Each.nil)) k x at

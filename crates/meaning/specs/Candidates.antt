@@ -1,11 +1,13 @@
 -- Candidates: "The cells of tables, rows, columns, in that order, are the digits of a candidate number, first cell most significant,
 -- digit = value - lo." Assumes nothing: these are definitions, and they compute.
+use mathlib.Core.Path.{_≡_}
 use mathlib.Core.List.{List, [], _∷_, _++_, foldr}
-use Prim.Native.Nat.{ℕ, zero, suc, _*_, _/_, _%_}
+use Prim.Native.Nat.{ℕ, zero, suc, _*_, _/_, _%_, _<_}
 use lib.ListN.{length, take, drop}
 use Rattle.value.specs.Value.{Value, Column, size, digit}
 use Rattle.meaning.specs.Lists.{copies}
 use Rattle.meaning.specs.Syntax.{Table, File, Database}
+use Rattle.meaning.specs.Valid.{Shaped}
 
 -- the column of each cell
 abbrev pub cellColumns : List Table → List Column
@@ -46,3 +48,9 @@ module _ (F : File) where
   -- the database of candidate k
   unfoldable pub database : ℕ → Database
   database k = cut (F .tables) (cells k)
+
+-- every database with the file's row counts and value ranges is the database of exactly one k below N
+pub record Numbered (F : File) : Type 0 where
+  pub shaped : (k : ℕ) → Shaped F (database F k)
+  pub candidate : (d : Database) → Shaped F d → (k : ℕ) × (k < candidates F) × (database F k ≡ d)
+  pub unique : (j k : ℕ) → j < candidates F → k < candidates F → database F j ≡ database F k → j ≡ k

@@ -1,13 +1,15 @@
--- "A list of looks" at one accepted file, and what demand 3 says of it as a whole. Assumes nothing: these are definitions.
+-- "A list of looks" at one accepted file, and what demand 3 says of it as a whole and of each look by itself. Assumes nothing: these are
+-- definitions.
 use mathlib.Core.Path.{_≡_}
 use mathlib.Core.Logic.{_↔_}
 use mathlib.Core.List.{List, [], _∷_}
 use Prim.Native.Nat.{ℕ, _+_, _≤_, _<_}
 use lib.IntN.{ℤ}
+use lib.ListN.{length}
 use Rattle.meaning.specs.Syntax.{File, Database}
 use Rattle.meaning.specs.Cases.{Case}
-use Rattle.meaning.specs.Candidates.{candidates, database}
-use Rattle.meaning.specs.Look.{Answer, After, shownIn}
+use Rattle.meaning.specs.Candidates.{cellCount, candidates, database}
+use Rattle.meaning.specs.Look.{Answer, After, workSize, zeros, shownIn}
 
 -- a look of a list: "its own count, from 0 up, and is lent buffers of any length and contents"
 pub record Ask : Type 0 where
@@ -91,3 +93,43 @@ module _ (F : File) where
   -- demand 3: one statement about every list of looks
   abbrev pub Lists : Look → Type 0
   Lists look = (qs : List Ask) → Whole (run look qs)
+
+-- ---- one look, in a list or alone, from any start
+
+-- not a refusal
+abbrev pub Accepted : Answer → Type 0
+Accepted (Answer.case k) = Unit {0}
+Accepted Answer.noCase = Unit {0}
+Accepted (Answer.spent next) = Unit {0}
+Accepted (Answer.refused n l) = ⊥
+
+module _ (F : File) where
+  -- the end of what a look passes over: "its k, its next or, at "no case", N". A refusal passes over nothing
+  abbrev pub upTo : Answer → ℕ
+  upTo (Answer.case k) = k
+  upTo Answer.noCase = candidates F
+  upTo (Answer.spent next) = next
+  upTo (Answer.refused n l) = 0
+
+  -- "passes over no case: from its start up to its k, its next or, at "no case", N, that end left out, no candidate is a case", and its k
+  -- is one
+  pub record PassesOverNone (look : Look) : Type 0 where
+    pub none : (start count : ℕ) (work inst : List ℤ) (a : Answer) (w i : List ℤ) → look start count work inst ≡ After.after a w i
+        → (j : ℕ) → start ≤ j → j < upTo a → ¬ (CaseAt F j)
+    pub hit : (start count : ℕ) (work inst : List ℤ) (k : ℕ) (w i : List ℤ) → look start count work inst ≡ After.after (Answer.case k) w i
+        → (start ≤ k) × (k < candidates F) × CaseAt F k
+
+-- "After an accepted look the work area is all zero"
+abbrev pub Zeroes : Look → Type 0
+Zeroes look = (start count : ℕ) (work inst : List ℤ) (a : Answer) (w i : List ℤ) → look start count work inst ≡ After.after a w i
+    → Accepted a → w ≡ zeros work
+
+-- a refused look writes nothing
+abbrev pub RefusedUnchanged : Look → Type 0
+RefusedUnchanged look = (start count : ℕ) (work inst : List ℤ) (n l : ℕ) (w i : List ℤ)
+    → look start count work inst ≡ After.after (Answer.refused n l) w i → (w ≡ work) × (i ≡ inst)
+
+-- "A call that meets none of these conditions is accepted"
+abbrev pub AcceptsFitting : File → Look → Type 0
+AcceptsFitting F look = (start count : ℕ) (work inst : List ℤ) → workSize ≤ length work → cellCount F ≤ length inst → start ≤ candidates F
+    → (a : Answer) (w i : List ℤ) → look start count work inst ≡ After.after a w i → Accepted a

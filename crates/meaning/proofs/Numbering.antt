@@ -1,0 +1,142 @@
+-- Candidates are numbered: every database of the file's row counts and value ranges is that of exactly one number. The cells of a database
+-- in a row, and cut again, are the database. Assumes nothing.
+use mathlib.Core.Path.{_≡_, refl, sym, ap, _∙_, subst}
+use mathlib.Core.Bool.{true}
+use mathlib.Core.List.{List, [], _∷_, _++_, foldr, map, append-assoc}
+use Prim.Native.Nat.{ℕ, zero, suc, _*_, _<_}
+use native.Mathlib.Nat.{suc-mul, zero-mul, add-comm}
+use native.Mathlib.Omega.{arith}
+use lib.Signed.{leZ}
+use lib.ListN.{length, take, drop, length-append, take-append-drop}
+use lib.Seq.{take-add, drop-drop, take-at, drop-at}
+use Rattle.value.specs.Bag.{All}
+use Rattle.value.specs.Value.{Value, Column, Within}
+use Rattle.value.proofs.Decides.{and-parts}
+use Rattle.value.proofs.Linear.{leZ-true}
+use Rattle.meaning.specs.Lists.{Each, all, copies}
+use Rattle.meaning.specs.Syntax.{Table, File, Row, Database}
+use Rattle.meaning.specs.Valid.{InRange}
+use Rattle.meaning.specs.Bounds.{ordered}
+use Rattle.meaning.specs.Candidates.{cellColumns, values, cutRows, cut, cellCount, candidates, cells, database, Numbered}
+use Rattle.meaning.proofs.Elements.{all-append, each-append}
+use Rattle.meaning.proofs.DecidedLists.{each-length}
+use Rattle.meaning.proofs.Digits.{Ascending, product-above, length-values, values-within, number, number-below, values-number, values-unique}
+
+-- ---- the columns of the cells are ordered where those of the tables are
+
+pub all-copies : {A : Type 0} {P : A → Type 0} {xs : List A} (n : ℕ) → All P xs → All P (copies n xs)
+all-copies zero p = All.nil
+all-copies (suc n) p = all-append p (all-copies n p)
+
+columns-ascend : (cs : List Column) → all (λ c. leZ (c .lo) (c .hi)) cs ≡ true → All Ascending cs
+columns-ascend [] e = All.nil
+columns-ascend (c ∷ cs) e =
+    let h = and-parts (leZ (c .lo) (c .hi)) (all (λ c. leZ (c .lo) (c .hi)) cs) e in
+    All.cons (leZ-true (c .lo) (c .hi) (h .0)) (columns-ascend cs (h .1))
+
+pub cells-ascend : (ts : List Table) → all ordered ts ≡ true → All Ascending (cellColumns ts)
+cells-ascend [] e = All.nil
+cells-ascend (t ∷ ts) e =
+    let h = and-parts (ordered t) (all ordered ts) e in
+    all-append (all-copies (t .rows) (columns-ascend (t .columns) (h .0))) (cells-ascend ts (h .1))
+
+-- ---- two lists, element by element
+
+module _ {A B : Type 0} {P : A → B → Type 0} where
+  pub each-split : (xs : List A) {xs′ : List A} {ys : List B} → Each P (xs ++ xs′) ys → Each P xs (take (length xs) ys) × Each P xs′ (drop (length xs) ys)
+  each-split [] ps = (Each.nil, ps)
+  each-split (x ∷ xs) (Each.cons p ps) = let h = each-split xs ps in (Each.cons p (h .0), h .1)
+
+-- ---- rows: cut and joined
+
+-- lists one behind the other
+abbrev pub joined : {A : Type 0} → List (List A) → List A
+joined = foldr _++_ []
+
+-- the cells of a database in a row: tables, rows, columns
+abbrev pub flat : Database → List Value
+flat d = joined (map joined d)
+
+drop-row : {A : Type 0} (n w : ℕ) (xs : List A) → drop (suc n * w) xs ≡ drop (n * w) (drop w xs)
+drop-row n w xs = rw (suc-mul n w, drop-drop, add-comm (n * w) w)
+
+length-cutRows : {A : Type 0} (n w : ℕ) (xs : List A) → length (cutRows n w xs) ≡ n
+length-cutRows zero w xs = refl
+length-cutRows (suc n) w xs = ap suc (length-cutRows n w (drop w xs))
+
+joined-cutRows : {A : Type 0} (n w : ℕ) (xs : List A) → joined (cutRows n w xs) ≡ take (n * w) xs
+joined-cutRows zero w xs = rw (zero-mul w)
+joined-cutRows (suc n) w xs = rw (joined-cutRows n w (drop w xs), suc-mul n w, add-comm (n * w) w) (sym (take-add w (n * w) xs))
+
+module _ (cs : List Column) where
+  -- each of the first n rows of cells lies in its columns, and the rest in theirs
+  cutRows-within : (n : ℕ) {rest : List Column} {vs : List Value} → Each Within (copies n cs ++ rest) vs
+      → All (Each Within cs) (cutRows n (length cs) vs) × Each Within rest (drop (n * length cs) vs)
+  cutRows-within zero ps = (All.nil, rw (zero-mul (length cs)) ps)
+  cutRows-within (suc n) {rest} {vs} ps =
+      let h = each-split cs (rw append-assoc at ps) in
+      let r = cutRows-within n (h .1) in
+      (All.cons (h .0) (r .0), rw (drop-row n (length cs) vs) (r .1))
+
+  joined-within : {R : List Row} → All (Each Within cs) R → Each Within (copies (length R) cs) (joined R)
+  joined-within All.nil = Each.nil
+  joined-within (All.cons p ps) = each-append p (joined-within ps)
+
+  length-joined : {R : List Row} → All (Each Within cs) R → length (joined R) ≡ length R * length cs
+  length-joined All.nil = sym (zero-mul (length cs))
+  length-joined (All.cons {x = r} {xs = R} p ps) = rw (length-append r (joined R)) (omega (arith, each-length p, length-joined ps, suc-mul (length R) (length cs)))
+
+  cutRows-joined : {R : List Row} (vs : List Value) → All (Each Within cs) R → cutRows (length R) (length cs) (joined R ++ vs) ≡ R
+  cutRows-joined vs All.nil = refl
+  cutRows-joined vs (All.cons {x = r} {xs = R} p ps) =
+      let n = each-length p in
+      let rest = joined R ++ vs in
+      rw (append-assoc r (joined R) vs, take-at r rest (length cs) n, drop-at r rest (length cs) n, cutRows-joined vs ps)
+
+-- ---- tables: cut and flattened
+
+pub cut-shaped : (ts : List Table) {vs : List Value} → Each Within (cellColumns ts) vs → Each InRange ts (cut ts vs)
+cut-shaped [] ps = Each.nil
+cut-shaped (t ∷ ts) {vs} ps =
+    let h = cutRows-within (t .columns) (t .rows) ps in
+    Each.cons (record { rows = length-cutRows (t .rows) (length (t .columns)) vs; values = h .0 }) (cut-shaped ts (h .1))
+
+pub flat-cut : (ts : List Table) {vs : List Value} → Each Within (cellColumns ts) vs → flat (cut ts vs) ≡ vs
+flat-cut [] Each.nil = refl
+flat-cut (t ∷ ts) {vs} ps =
+    let w = length (t .columns) in
+    rw (joined-cutRows (t .rows) w vs, flat-cut ts (cutRows-within (t .columns) (t .rows) ps .1)) (take-append-drop (t .rows * w) vs)
+
+pub flat-within : {ts : List Table} {d : Database} → Each InRange ts d → Each Within (cellColumns ts) (flat d)
+flat-within Each.nil = Each.nil
+flat-within (Each.cons {x = t} {y = R} r rs) =
+    each-append (subst (λ (n : ℕ). Each Within (copies n (t .columns)) (joined R)) (r .rows) (joined-within (t .columns) (r .values))) (flat-within rs)
+
+pub cut-flat : {ts : List Table} {d : Database} → Each InRange ts d → cut ts (flat d) ≡ d
+cut-flat Each.nil = refl
+cut-flat (Each.cons {x = t} {y = R} {ys = d} r rs) =
+    let cs = t .columns in
+    let rest = drop-at (joined R) (flat d) (length R * length cs) (length-joined cs (r .values)) in
+    rw (← r .rows, cutRows-joined cs (flat d) (r .values), rest, cut-flat rs)
+
+-- ---- the numbering
+
+module _ (F : File) where
+  pub length-cells : (k : ℕ) → length (cells F k) ≡ cellCount F
+  unfolding cells
+  length-cells k = length-values (cellColumns (F .tables)) k
+
+  pub candidates-above : all ordered (F .tables) ≡ true → 0 < candidates F
+  unfolding candidates
+  candidates-above o = product-above (cells-ascend (F .tables) o)
+
+  pub numbered : all ordered (F .tables) ≡ true → Numbered F
+  unfolding candidates cells database
+  numbered o =
+      let cs = cellColumns (F .tables) in
+      let hs = cells-ascend (F .tables) o in
+      record {
+        shaped = λ k. cut-shaped (F .tables) (values-within hs k);
+        candidate = λ d s. let w = flat-within s in (number cs (flat d), number-below w, rw (values-number hs w) (cut-flat s));
+        unique = λ j k hj hk e. values-unique hs j k hj hk (sym (flat-cut (F .tables) (values-within hs j)) ∙ ap flat e ∙ flat-cut (F .tables) (values-within hs k));
+      }
