@@ -1,0 +1,5 @@
+-- What a reader must believe of refusals 3 to 10 and of accepted texts, in the order to read it.
+pub mod Draft
+pub mod Frames
+pub mod Check
+pub mod Written

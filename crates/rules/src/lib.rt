@@ -1,0 +1,1 @@
+// From frames to a checked file.
