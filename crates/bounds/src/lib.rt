@@ -1,0 +1,1 @@
+// The rule on aggregates and the ranges of expressions, on frame bytes.
