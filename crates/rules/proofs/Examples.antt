@@ -1,15 +1,14 @@
 -- Worked examples, by computation: the frames of the marked examples. Assumes nothing.
 use mathlib.Core.Path.{_≡_, refl}
-use mathlib.Core.Bool.{Bool, true, false}
-use mathlib.Core.List.{List, [], _∷_, _++_, map}
+use mathlib.Core.List.{List, [], _∷_}
 use Prim.Native.Nat.{ℕ}
-use Rattle.value.specs.Integer.{signedOf, bitsOf, minZ, maxZ, stepsUp, roundZ}
+use Rattle.value.specs.Integer.{signedOf, bitsOf, minZ, maxZ}
 use Rattle.value.specs.Value.{size}
 use Rattle.meaning.specs.Prefix.{encodeE, encodeC}
 use Rattle.meaning.specs.Reading.{deepE, deepC, readE, readC}
 use Rattle.meaning.specs.Candidates.{candidates}
 use Rattle.rules.specs.Check.{Outcome, checkFrame, checkFrames, checkAll}
-use Rattle.rules.specs.Written.{tableBytes, keyBytes, viewBytes, goalBytes, fileFrames}
+use Rattle.rules.specs.Written.{tableBytes, viewBytes, goalBytes, fileFrames}
 
 -- 0 for accepted, else the number and the line
 abbrev verdict : Outcome → ℕ × ℕ

@@ -1,1 +1,3 @@
+-- The laws of checked files, lowest first.
+pub mod FieldLaws
 pub mod Examples

@@ -101,7 +101,7 @@ frame d kind =
     (either (eqb kind 0x06) (setFrame d View.intersection)
     (goalFrame d))))))
 
-abbrev noTable : Table
+abbrev pub noTable : Table
 noTable = record { rows = 0; columns = []; key = [] }
 
 -- "then whole-frame rules 6 (pairing, column counts), 7, 8, 9": the number of the first that is broken, or 0

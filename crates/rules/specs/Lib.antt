@@ -3,3 +3,6 @@ pub mod Draft
 pub mod Frames
 pub mod Check
 pub mod Written
+-- what the code's numbers and arrays stand for
+pub mod Faults
+pub mod Catalogued

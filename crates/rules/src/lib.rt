@@ -1,1 +1,2 @@
 // From frames to a checked file.
+pub mod fields;

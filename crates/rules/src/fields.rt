@@ -1,0 +1,69 @@
+// The fields of a frame: the fault of each, or 0.
+ghost use mathlib.Core.Path.{_≡_};
+ghost use lib.ListN.{getD};
+ghost use Rattle.meaning.specs.Reading.{byteIf};
+ghost use Rattle.rules.specs.Frames.{ending};
+ghost use Rattle.rules.specs.Faults.{first, faultAt, under, within, fromUnder};
+
+// The first fault of two; 0 is no fault.
+pub fn first_of(m: u8, n: u8) -> u8
+    ensures { λ r. ⌜ r ≡ first m n ⌝ }
+{
+    if m == 0 { n } else { m }
+}
+
+// The byte at a place; 0 past the end.
+pub fn byte_at(frame: &[u8], at: usize) -> u8
+    ensures { λ r. ⌜ r ≡ getD (now (frame .entry)) at 0 ⌝ }
+{
+    if at < frame.len() { frame[at] } else { 0 }
+}
+
+// A byte from lo to hi, else the fault `number`.
+pub fn between(frame: &[u8], at: usize, number: u8, lo: u8, hi: u8) -> u8
+    ensures { λ r. ⌜ r ≡ faultAt (now (frame .entry)) at (byteIf number (within lo hi)) ⌝ }
+{
+    if frame.len() <= at {
+        return 4;
+    }
+    let b = frame[at];
+    if b < lo {
+        return number;
+    }
+    if hi < b {
+        return number;
+    }
+    0
+}
+
+// A byte below n, else the fault `number`.
+pub fn below(frame: &[u8], at: usize, number: u8, n: u8) -> u8
+    ensures { λ r. ⌜ r ≡ faultAt (now (frame .entry)) at (byteIf number (under n)) ⌝ }
+{
+    if frame.len() <= at {
+        return 4;
+    }
+    let b = frame[at];
+    if b < n { 0 } else { number }
+}
+
+// A byte from lo on and below n, else the fault `number`.
+pub fn from_below(frame: &[u8], at: usize, number: u8, lo: u8, n: u8) -> u8
+    ensures { λ r. ⌜ r ≡ faultAt (now (frame .entry)) at (byteIf number (fromUnder lo n)) ⌝ }
+{
+    if frame.len() <= at {
+        return 4;
+    }
+    let b = frame[at];
+    if b < lo {
+        return number;
+    }
+    if b < n { 0 } else { number }
+}
+
+// Nothing from `at` on.
+pub fn ends_at(frame: &[u8], at: usize) -> u8
+    ensures { λ r. ⌜ r ≡ faultAt (now (frame .entry)) at (ending at) ⌝ }
+{
+    if frame.len() <= at { 0 } else { 4 }
+}
