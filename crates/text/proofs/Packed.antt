@@ -1,0 +1,169 @@
+-- Where the loop over a text stands, and what each turn and each end of it gives.
+--     Here    what is read, what is packed, what is left
+-- Assumes nothing.
+use mathlib.Core.Path.{_≡_, refl, sym, ap, subst⁻¹, _∙_}
+use mathlib.Core.Bool.{false}
+use mathlib.Core.List.{List, [], _∷_, _++_, append-assoc, append-nil}
+use Prim.Native.Nat.{ℕ, _+_, _*_, _≤_, _<_}
+use native.Mathlib.Numerals.{add-one}
+use native.Mathlib.Omega.{arith}
+use lib.Dec.{eqb}
+use lib.ListN.{length, getD, take, drop, set, length-append, length-drop, length-set, drop-of-length-le}
+use lib.Seq.{take-set-le, take-suc-set, drop-set-add, drop-set-lt, take-add, drop-drop}
+use borrow.Author.Tests.{eq-eqb, ne-eqb}
+use Rattle.text.specs.Text.{Lines, frames, refused, between, lineAfter, run, ended, linesOf}
+use Rattle.text.specs.Pair.{pairOf}
+use Rattle.text.specs.Answers.{pack, Decoded, Blank}
+use Rattle.text.specs.declared.Frames.{Frames}
+use Rattle.text.specs.declared.Pair.the-variants.{Byte, Wrong}
+use Rattle.text.proofs.Digits.{drop-one}
+use Rattle.text.proofs.Runs.{pair-long, run-byte, run-close, run-no-pair, run-long, run-empty}
+
+pack-snoc : (done : List (List ℕ)) (f : List ℕ) → pack (done ++ f ∷ []) ≡ pack done ++ length f ∷ f
+unfolding pack
+pack-snoc [] f = ap (λ (l : List ℕ). length f ∷ l) (append-nil f)
+pack-snoc (g ∷ gs) f = ap (λ (l : List ℕ). length g ∷ l) (ap (λ (l : List ℕ). g ++ l) (pack-snoc gs f) ∙ sym (append-assoc g (pack gs) (length f ∷ f)))
+
+-- a line that is closed: its length stands before its bytes
+closed-bytes : (bytes : List ℕ) (start size : ℕ) → start < length bytes
+    → take (start + 1 + size) (set bytes start size) ≡ take start bytes ++ size ∷ take size (drop (start + 1) bytes)
+closed-bytes bytes start size h =
+    let front : take (start + 1) (set bytes start size) ≡ take start bytes ++ size ∷ [] = rw (add-one, take-suc-set bytes start size h) in
+    let rest : drop (start + 1) (set bytes start size) ≡ drop (start + 1) bytes = drop-set-lt (start + 1) bytes start size (omega arith) in
+    take-add (start + 1) size (set bytes start size) ∙ rw (front, rest, append-assoc)
+
+-- a byte more
+opened-bytes : (bytes : List ℕ) (from size v : ℕ) → from + size < length bytes
+    → take (size + 1) (drop from (set bytes (from + size) v)) ≡ take size (drop from bytes) ++ v ∷ []
+opened-bytes bytes from size v h =
+    let long : size < length (drop from bytes) = simp length-drop (omega arith) in
+    rw (drop-set-add, add-one, take-suc-set (drop from bytes) size v long)
+
+pub record Here (text : List ℕ) (r : Frames) (at size : ℕ) : Type 0 where
+  pub done : List (List ℕ)
+  pub frame : List ℕ
+  pub left : run (between [] []) text ≡ run (between done frame) (drop at text)
+  pub packed : take (r .used) (r .bytes) ≡ pack done
+  pub used-is : r .used ≡ length (pack done)
+  pub opened : take size (drop (r .used + 1) (r .bytes)) ≡ frame
+  pub size-is : size ≡ length frame
+  pub line-is : r .line ≡ lineAfter done
+  pub number-is : r .number ≡ 2
+  pub within : at ≤ length text
+  -- the shortest line has three characters and takes two bytes
+  pub room : 3 * (r .used) + 4 * size ≤ 2 * at
+  pub few : size ≤ 120
+  pub counted : r .line ≤ at + 1
+  pub wide : length (r .bytes) ≡ 5462
+
+pub begin : (text : List ℕ) (r : Frames) → Blank 2 1 r → Here text r 0 0
+unfolding pack
+begin text r b =
+    record {
+      done = [];
+      frame = [];
+      left = refl;
+      packed = ap (λ (n : ℕ). take n (r .bytes)) (b .used);
+      used-is = b .used;
+      opened = refl;
+      size-is = refl;
+      line-is = b .refuses .line;
+      number-is = b .refuses .number;
+      within = omega arith;
+      room = omega (arith, b .used);
+      few = omega arith;
+      counted = omega (arith, b .refuses .line);
+      wide = b .wide;
+    }
+
+module _ {text : List ℕ} {r : Frames} {at size : ℕ} (h : Here text r at size) where
+  refuses : linesOf text ≡ refused 2 (lineAfter (h .done)) → Decoded (linesOf text) r
+  refuses e = subst⁻¹ (λ (l : Lines). Decoded l r) e (record { number = h .number-is; line = h .line-is })
+
+  -- what is left begins with a character, and gives what it gives
+  ends : at < length text → (l : Lines) → ended (run (between (h .done) (h .frame)) (getD text at 0 ∷ drop (at + 1) text)) ≡ l → linesOf text ≡ l
+  unfolding linesOf
+  ends k l e = ap ended (h .left ∙ ap (run (between (h .done) (h .frame))) (drop-one text at k)) ∙ e
+
+  pub empty-line : at < length text → getD text at 0 ≡ 10 → size ≡ 0 → Decoded (linesOf text) r
+  empty-line k c z = refuses (ends k _ (run-empty _ _ _ _ (eq-eqb _ 10 c) (nil (h .frame) (omega (arith, h .size-is)))))
+    where
+      nil : (l : List ℕ) → length l ≡ 0 → l ≡ []
+      nil [] e = refl
+      nil (x ∷ xs) e = absurd (omega arith)
+
+  pub long-line : at < length text → (getD text at 0 ≡ 10 → ⊥) → 120 ≤ size → Decoded (linesOf text) r
+  long-line k c z = refuses (ends k _ (run-long _ _ _ _ (ne-eqb _ 10 c) (omega (arith, h .size-is))))
+
+  -- the character at `at` is no LF
+  other : at < length text → (getD text at 0 ≡ 10 → ⊥) → eqb (getD (drop at text) 0 0) 10 ≡ false
+  other k c = rw (drop-one text at k) (ne-eqb _ 10 c)
+
+  pub no-pair : at < length text → (getD text at 0 ≡ 10 → ⊥) → pairOf (drop at text) ≡ Wrong → Decoded (linesOf text) r
+  unfolding linesOf
+  no-pair k c e = refuses (ap ended (h .left) ∙ run-no-pair (h .done) (h .frame) (drop at text) (other k c) (simp length-drop (omega arith)) e)
+
+  pub one-byte : (v : ℕ) → length text ≤ 8192 → at < length text → (getD text at 0 ≡ 10 → ⊥) → size < 120 → pairOf (drop at text) ≡ Byte v
+      → Here text (record { bytes = set (r .bytes) (r .used + 1 + size) v; used = r .used; number = r .number; line = r .line }) (at + 2) (size + 1)
+  one-byte v s k c few e =
+      let long : 2 ≤ length (drop at text) = pair-long (drop at text) e in
+      let two : at + 2 ≤ length text = omega (arith, simp length-drop at long) in
+      let slot : r .used + 1 + size < length (r .bytes) = omega arith in
+      record {
+        done = h .done;
+        frame = h .frame ++ v ∷ [];
+        left = h .left ∙ run-byte (h .done) (h .frame) (drop at text) v (other k c) (omega arith) e ∙ rw drop-drop;
+        packed = take-set-le (r .used) (r .bytes) (r .used + 1 + size) v (omega arith) ∙ h .packed;
+        used-is = h .used-is;
+        opened = opened-bytes (r .bytes) (r .used + 1) size v slot ∙ ap (λ (l : List ℕ). l ++ v ∷ []) (h .opened);
+        size-is = simp length-append (omega arith);
+        line-is = h .line-is;
+        number-is = h .number-is;
+        within = two;
+        room = omega arith;
+        few = omega arith;
+        counted = omega arith;
+        wide = simp length-set (h .wide);
+      }
+
+  pub close-line : length text ≤ 8192 → at < length text → getD text at 0 ≡ 10 → (size ≡ 0 → ⊥)
+      → Here text (record { bytes = set (r .bytes) (r .used) size; used = r .used + 1 + size; number = r .number; line = r .line + 1 }) (at + 1) 0
+  close-line s k c full =
+      let sized : 0 < length (h .frame) = omega arith in
+      record {
+        done = h .done ++ h .frame ∷ [];
+        frame = [];
+        left = h .left ∙ ap (run (between (h .done) (h .frame))) (drop-one text at k) ∙ run-close (h .done) (h .frame) _ _ (eq-eqb _ 10 c) sized;
+        packed = closed-bytes (r .bytes) (r .used) size (omega arith) ∙ rw (h .packed, h .opened, h .size-is, pack-snoc);
+        used-is = rw pack-snoc (simp length-append (omega arith));
+        opened = refl;
+        size-is = refl;
+        line-is = simp length-append (omega arith);
+        number-is = h .number-is;
+        within = omega arith;
+        room = omega arith;
+        few = omega arith;
+        counted = omega arith;
+        wide = simp length-set (h .wide);
+      }
+
+  -- the text is at its end
+  over : length text ≤ at → linesOf text ≡ ended (between (h .done) (h .frame))
+  unfolding linesOf run
+  over k = ap ended (h .left ∙ ap (run (between (h .done) (h .frame))) (drop-of-length-le text k))
+
+  pub good-end : length text ≤ at → size ≡ 0 → Decoded (linesOf text) (record { bytes = r .bytes; used = r .used; number = 0; line = r .line })
+  good-end k z =
+      subst⁻¹ (λ (l : Lines). Decoded l (record { bytes = r .bytes; used = r .used; number = 0; line = r .line })) (over k ∙ go (h .frame) (omega arith))
+      (record { number = refl; used = h .used-is; packed = h .packed; wide = h .wide })
+    where
+      go : (f : List ℕ) → length f ≡ 0 → ended (between (h .done) f) ≡ frames (h .done)
+      go [] e = refl
+      go (b ∷ bs) e = absurd (omega arith)
+
+  pub bad-end : length text ≤ at → (size ≡ 0 → ⊥) → Decoded (linesOf text) r
+  bad-end k z = refuses (over k ∙ go (h .frame) (omega arith))
+    where
+      go : (f : List ℕ) → 0 < length f → ended (between (h .done) f) ≡ refused 2 (lineAfter (h .done))
+      go [] e = absurd (omega arith)
+      go (b ∷ bs) e = refl

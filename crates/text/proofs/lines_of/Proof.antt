@@ -1,0 +1,124 @@
+-- `text::lines_of` meets its contract. Assumes nothing.
+use Prim.Native.Nat.{_-_}
+use native.Mathlib.Omega.{arith}
+use lib.ListN.{length}
+use Rattle.text.proofs.Packed.{Here, begin, empty-line, long-line, no-pair, one-byte, close-line, good-end, bad-end}
+use Rattle.text.proofs.lines_of.Statement.{statement}
+use Rattle.text.proofs.lines_of.Tie as tie
+
+abbrev Inv-loop : tie.InvT-loop
+Inv-loop text r₀ at₀ size₀ r at size = Here text r at size
+
+abbrev μ-loop : tie.MeasureT-loop
+μ-loop text r₀ at₀ size₀ r at size = length text - at
+
+refusal-requires : tie.Need-refusal-requires Inv-loop μ-loop
+refusal-requires c κs = tt
+
+loop-holds : tie.Need-loop-holds Inv-loop μ-loop
+loop-holds c = begin _ _ (c .refusal .ensures)
+
+shared-slice-read-if1 : tie.Need-shared-slice-read-if1 Inv-loop μ-loop
+shared-slice-read-if1 c = omega arith
+
+returns : tie.Need-returns Inv-loop μ-loop
+returns c = empty-line (c .before .before .before .before .loop .inv) (c .before .before .before .loop-test .taken) (c .before .if1 .taken) (c .if2 .taken)
+
+cast-r : tie.Need-cast-r Inv-loop μ-loop
+cast-r c = omega arith
+
+element-write-r : tie.Need-element-write-r Inv-loop μ-loop
+element-write-r c = omega arith
+
+add-r : tie.Need-add-r Inv-loop μ-loop
+add-r c = omega arith
+
+add-r-2 : tie.Need-add-r-2 Inv-loop μ-loop
+add-r-2 c = omega arith
+
+add-r-3 : tie.Need-add-r-3 Inv-loop μ-loop
+add-r-3 c = omega arith
+
+add-at : tie.Need-add-at Inv-loop μ-loop
+add-at c = omega arith
+
+loop-less : tie.Need-loop-less Inv-loop μ-loop
+loop-less c = omega arith
+
+loop-again : tie.Need-loop-again Inv-loop μ-loop
+loop-again c = close-line (c .before .before .before .before .loop .inv) (c .before .before .before .before .before .before .before .pre) (c .before .before .before .loop-test .taken) (c .before .if1 .taken) (c .if2 .left)
+
+returns-2 : tie.Need-returns-2 Inv-loop μ-loop
+returns-2 c = long-line (c .before .before .before .before .loop .inv) (c .before .before .before .loop-test .taken) (c .before .if1 .left) (c .if3 .taken)
+
+pair-at-requires : tie.Need-pair-at-requires Inv-loop μ-loop
+pair-at-requires c κs = omega arith
+
+enum-known-byte : tie.Need-enum-known-byte Inv-loop μ-loop
+enum-known-byte c = omega arith
+
+enum-told : tie.Need-enum-told Inv-loop μ-loop
+enum-told c = omega arith
+
+returns-3 : tie.Need-returns-3 Inv-loop μ-loop
+returns-3 c = no-pair (c .before .before .before .before .before .before .before .loop .inv) (c .before .before .before .before .before .before .loop-test .taken) (c .before .before .before .before .if1 .left) (cc)
+
+add-place : tie.Need-add-place Inv-loop μ-loop
+add-place c = omega arith
+
+add-place-2 : tie.Need-add-place-2 Inv-loop μ-loop
+add-place-2 c = omega arith
+
+element-write-r-2 : tie.Need-element-write-r-2 Inv-loop μ-loop
+element-write-r-2 c = omega arith
+
+add-size : tie.Need-add-size Inv-loop μ-loop
+add-size c = omega arith
+
+add-at-2 : tie.Need-add-at-2 Inv-loop μ-loop
+add-at-2 c = omega arith
+
+loop-less-2 : tie.Need-loop-less-2 Inv-loop μ-loop
+loop-less-2 c = omega arith
+
+loop-again-2 : tie.Need-loop-again-2 Inv-loop μ-loop
+loop-again-2 c = one-byte (c .before .before .before .before .before .before .before .before .loop .inv) _ (c .before .before .before .before .before .before .before .before .before .before .before .pre) (c .before .before .before .before .before .before .before .loop-test .taken) (c .before .before .before .before .before .if1 .left) (omega arith) (cc)
+
+returns-4 : tie.Need-returns-4 Inv-loop μ-loop
+returns-4 c = good-end (c .before .before .loop .inv) (c .before .loop-test .left) (c .if4 .taken)
+
+returns-5 : tie.Need-returns-5 Inv-loop μ-loop
+returns-5 c = bad-end (c .before .before .loop .inv) (c .before .loop-test .left) (c .if4 .left)
+
+pub lines-of-spec : {M : Type 1} → statement M
+lines-of-spec =
+    tie.close
+    (tie.spec
+    Inv-loop
+    μ-loop
+    refusal-requires
+    loop-holds
+    shared-slice-read-if1
+    returns
+    cast-r
+    element-write-r
+    add-r
+    add-r-2
+    add-r-3
+    add-at
+    loop-less
+    loop-again
+    returns-2
+    pair-at-requires
+    enum-known-byte
+    enum-told
+    returns-3
+    add-place
+    add-place-2
+    element-write-r-2
+    add-size
+    add-at-2
+    loop-less-2
+    loop-again-2
+    returns-4
+    returns-5)
