@@ -3,6 +3,7 @@ pub mod Draft
 pub mod Frames
 pub mod Check
 pub mod Written
+pub mod FileOf
 -- what the code's numbers and arrays stand for
 pub mod Faults
 pub mod Catalogued
