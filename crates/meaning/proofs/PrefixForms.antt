@@ -33,7 +33,7 @@ use Rattle.meaning.proofs.Readers.{Byte, one, Sound, SoundAll, entry, n
 
 -- two bytes stand for sixteen bits
 module _ (h l : ℕ) (p : Byte h) (q : Byte l) where
-  constant-limits : (low16 ≤ℤ bytesZ h l) × (bytesZ h l ≤ℤ high16)
+  pub constant-limits : (low16 ≤ℤ bytesZ h l) × (bytesZ h l ≤ℤ high16)
   constant-limits =
       let n = h * 256 + l in
       by-test (ltb n 32768)
@@ -44,7 +44,7 @@ module _ (h l : ℕ) (p : Byte h) (q : Byte l) where
   unfolding encodeE
   constant-back = rw (high-back h l p q, low-back h l p q)
 
-constant-fits : (z : ℤ) → low16 ≤ℤ z → z ≤ℤ high16 → SFits w16 z
+pub constant-fits : (z : ℤ) → low16 ≤ℤ z → z ≤ℤ high16 → SFits w16 z
 constant-fits z l h = omega ints
 
 aggregate-back : (n : ℕ) → n ≤ 3 → aggregateByte (aggregateAt n) ≡ n

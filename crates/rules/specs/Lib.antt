@@ -4,6 +4,7 @@ pub mod Frames
 pub mod Check
 pub mod Written
 pub mod FileOf
+pub mod Legal
 -- what the code's numbers and arrays stand for
 pub mod Faults
 pub mod Catalogued
