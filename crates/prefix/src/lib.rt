@@ -1,1 +1,211 @@
-// Where an expression or a condition in prefix form ends, on frame bytes.
+// Where each field of a frame ends, and each expression and condition in prefix form; or the number of its refusal.
+ghost use mathlib.Core.Path.{_≡_};
+ghost use mathlib.Core.Bool.{cond, _&&_};
+ghost use Prim.Native.Nat.{_+_, _*_, _≤_};
+ghost use lib.Dec.{ltb, leb};
+ghost use lib.ListN.{length, getD};
+ghost use Rattle.meaning.specs.Reading.{byteIf, twoBytes, step as stepR, place as placeR, readE, readC};
+ghost use Rattle.prefix.specs.Skipped.{skipped, twice, behindE, behindC};
+
+// Where the next bytes start, or the number of a refusal.
+pub enum Skip {
+    Next(usize),
+    Refused(u8),
+}
+
+fn wide(x: u8) -> u16
+    ensures { λ r. ⌜ r ≡ x ⌝ }
+{
+    x as u16
+}
+
+fn within(x: u16, lo: u16, hi: u16) -> bool
+    ensures { λ r. ⌜ r ≡ leb lo x && leb x hi ⌝ }
+{
+    lo <= x && x <= hi
+}
+
+// The byte at a position, 0 past the end.
+// Refused: 1 past the end; the first byte.
+pub fn byte_at(frame: &[u8], at: usize) -> u8
+    ensures { λ r. ⌜ r ≡ getD (now (frame .entry)) at 0 ⌝ }
+{
+    if at < frame.len() { frame[at] } else { 0 }
+}
+
+// Two bytes, high byte first, 0 for each past the end.
+// Refused: 255 for 256; the high byte twice.
+pub fn word_at(frame: &[u8], at: usize) -> u16
+    ensures { λ r. ⌜ r ≡ getD (now (frame .entry)) at 0 * 256 + getD (now (frame .entry)) (at + 1) 0 ⌝ }
+{
+    if frame.len() <= at {
+        return 0;
+    }
+    wide(byte_at(frame, at)) * 256 + wide(byte_at(frame, at + 1))
+}
+
+// One byte, whose test the caller has made.
+// Refused: the byte is left; 4 for the number.
+pub fn tested(frame: &[u8], at: usize, number: u8, passes: bool) -> Skip
+    ensures { λ r. ⌜ r ≡ skipped (now (frame .entry)) at (byteIf number (λ _. passes)) ⌝ }
+{
+    if frame.len() <= at {
+        return Skip::Refused(4);
+    }
+    if passes {
+        Skip::Next(at + 1)
+    } else {
+        Skip::Refused(number)
+    }
+}
+
+// One byte below n.
+// Refused: n passes; n for the number.
+pub fn below(frame: &[u8], at: usize, number: u8, n: u8) -> Skip
+    ensures { λ r. ⌜ r ≡ skipped (now (frame .entry)) at (byteIf number (λ b. ltb b n)) ⌝ }
+{
+    tested(frame, at, number, byte_at(frame, at) < n)
+}
+
+// One byte from lo to hi.
+// Refused: lo for hi; hi for lo.
+pub fn between(frame: &[u8], at: usize, number: u8, lo: u8, hi: u8) -> Skip
+    ensures { λ r. ⌜ r ≡ skipped (now (frame .entry)) at (byteIf number (λ b. leb lo b && leb b hi)) ⌝ }
+{
+    tested(
+        frame,
+        at,
+        number,
+        within(wide(byte_at(frame, at)), wide(lo), wide(hi)),
+    )
+}
+
+// Two bytes.
+// Refused: one byte; a second byte that is not there.
+pub fn two_bytes(frame: &[u8], at: usize) -> Skip
+    ensures { λ r. ⌜ r ≡ skipped (now (frame .entry)) at twoBytes ⌝ }
+{
+    if frame.len() <= at {
+        return Skip::Refused(4);
+    }
+    if frame.len() <= at + 1 {
+        return Skip::Refused(4);
+    }
+    Skip::Next(at + 2)
+}
+
+// Two bytes from 1 to 1,000.
+// Refused: 0 passes; 1,001 passes.
+pub fn step(frame: &[u8], at: usize) -> Skip
+    ensures { λ r. ⌜ r ≡ skipped (now (frame .entry)) at stepR ⌝ }
+{
+    match two_bytes(frame, at) {
+        Skip::Next(next) => if within(word_at(frame, at), 1, 1000) {
+            Skip::Next(next)
+        } else {
+            Skip::Refused(5)
+        },
+        Skip::Refused(n) => Skip::Refused(n),
+    }
+}
+
+// A from item, and one of its columns.
+// Refused: 5 for 6; the columns of the first from item.
+pub fn place(frame: &[u8], at: usize, cols: &[u8]) -> Skip
+    ensures { λ r. ⌜ r ≡ skipped (now (frame .entry)) at (placeR (now (cols .entry))) ⌝ }
+{
+    let item = byte_at(frame, at) as usize;
+    match tested(frame, at, 6, item < cols.len()) {
+        Skip::Next(next) => below(frame, next, 6, byte_at(cols, item)),
+        Skip::Refused(n) => Skip::Refused(n),
+    }
+}
+
+// A condition where one is due, else an expression: the token's range says which of the two it begins.
+// Refused: 07 is unknown; 10 is unknown.
+pub fn form(frame: &[u8], at: usize, cols: &[u8], condition: bool) -> Skip
+    ensures { λ r. ⌜ r ≡ cond condition (skipped (now (frame .entry)) at (readC (now (cols .entry)))) (skipped (now (frame .entry)) at (readE (now (cols .entry)))) ⌝ }
+{
+    if frame.len() <= at {
+        return Skip::Refused(4);
+    }
+    let token = frame[at];
+    let body = at + 1;
+    match token {
+        0x00..=0x07 => if condition {
+            Skip::Refused(4)
+        } else {
+            behind_expression(frame, body, cols, token)
+        },
+        0x10..=0x16 => if condition {
+            behind_condition(frame, body, cols, token)
+        } else {
+            Skip::Refused(4)
+        },
+        _ => Skip::Refused(4),
+    }
+}
+
+// An expression.
+// Refused: a condition; the form at 0.
+pub fn expression(frame: &[u8], at: usize, cols: &[u8]) -> Skip
+    ensures { λ r. ⌜ r ≡ skipped (now (frame .entry)) at (readE (now (cols .entry))) ⌝ }
+{
+    form(frame, at, cols, false)
+}
+
+// A condition.
+// Refused: the form at 0; an expression.
+pub fn condition(frame: &[u8], at: usize, cols: &[u8]) -> Skip
+    ensures { λ r. ⌜ r ≡ skipped (now (frame .entry)) at (readC (now (cols .entry))) ⌝ }
+{
+    form(frame, at, cols, true)
+}
+
+// Two conditions, or two expressions.
+fn pair(frame: &[u8], at: usize, cols: &[u8], condition: bool) -> Skip
+    ensures { λ r. ⌜ r ≡ cond condition (skipped (now (frame .entry)) at (twice (readC (now (cols .entry))))) (skipped (now (frame .entry)) at (twice (readE (now (cols .entry))))) ⌝ }
+{
+    match form(frame, at, cols, condition) {
+        Skip::Next(next) => form(frame, next, cols, condition),
+        Skip::Refused(n) => Skip::Refused(n),
+    }
+}
+
+// What stands behind an expression's token.
+fn behind_expression(frame: &[u8], at: usize, cols: &[u8], token: u8) -> Skip
+    ensures { λ r. ⌜ r ≡ skipped (now (frame .entry)) at (behindE (now (cols .entry)) token) ⌝ }
+{
+    match token {
+        0x00 => two_bytes(frame, at),
+        0x01 => place(frame, at, cols),
+        0x02..=0x04 => pair(frame, at, cols, false),
+        0x05 => match step(frame, at) {
+            Skip::Next(next) => expression(frame, next, cols),
+            Skip::Refused(n) => Skip::Refused(n),
+        },
+        0x06 => match condition(frame, at, cols) {
+            Skip::Next(next) => pair(frame, next, cols, false),
+            Skip::Refused(n) => Skip::Refused(n),
+        },
+        0x07 => match between(frame, at, 5, 0, 3) {
+            Skip::Next(next) => expression(frame, next, cols),
+            Skip::Refused(n) => Skip::Refused(n),
+        },
+        _ => Skip::Refused(4),
+    }
+}
+
+// What stands behind a condition's token.
+fn behind_condition(frame: &[u8], at: usize, cols: &[u8], token: u8) -> Skip
+    requires { ⌜ at ≤ length (now frame) ⌝ }
+    ensures { λ r. ⌜ r ≡ skipped (now (frame .entry)) at (behindC (now (cols .entry)) token) ⌝ }
+{
+    match token {
+        0x10 => Skip::Next(at),
+        0x11..=0x13 => pair(frame, at, cols, false),
+        0x14 => condition(frame, at, cols),
+        0x15..=0x16 => pair(frame, at, cols, true),
+        _ => Skip::Refused(4),
+    }
+}

@@ -1,0 +1,209 @@
+-- What skipping a form comes to, by its token.
+-- Assumes nothing.
+use mathlib.Core.Path.{_≡_, refl, ap, _∙_}
+use mathlib.Core.Bool.{Bool, true, false, _&&_, cond}
+use mathlib.Core.List.{List, [], _∷_}
+use Prim.Native.Nat.{ℕ, _+_, _≤_, _<_}
+use native.Mathlib.Omega.{arith}
+use lib.Dec.{leb, eqb}
+use lib.ListN.{length, getD}
+use borrow.Author.Tests.{ne-eqb, eqb-true, eqb-false, le-leb}
+use Rattle.value.proofs.Decides.{by-test}
+use Rattle.value.specs.Value.{Operation, Comparison, Connective, aggregateAt}
+use Rattle.meaning.specs.Syntax.{Expr, Cond}
+use Rattle.meaning.specs.Reading.{Reader, done, _>>=_, byte, byteIf, twoBytes, step, place, choose, expressions, conditions, readE, readC}
+use Rattle.meaning.proofs.PrefixForms.{readE-step, readC-step}
+use Rattle.prefix.specs.Skipped.{skipOf, skipped, twice, behindE, behindC}
+use Rattle.prefix.specs.declared.Skip.{Skip}
+use Rattle.prefix.specs.declared.Skip.the-variants.{Next, Refused}
+use Rattle.prefix.proofs.Ends.{fieldE, fieldC}
+use Rattle.prefix.proofs.Skips.{Level, level-refl, level-done, level-bind, level-at, from-byte, next-is, past-end, then-further, then-next, then-stop}
+
+-- a token that is not the least of those left
+pub past : {k t : ℕ} → k ≤ t → (t ≡ k → ⊥) → k + 1 ≤ t
+past h n = omega arith
+
+module _ (cols : List ℕ) where
+  abbrev E : Reader Expr
+  E = readE cols
+
+  abbrev C : Reader Cond
+  C = readC cols
+
+  -- two trees that one node holds
+  two-trees : {A : Type 0} (f : Expr → Expr → A) → Level (E >>= λ a. E >>= λ b. done (f a b)) (twice E)
+  unfolding twice
+  two-trees f = level-bind E (λ a. level-done E (f a))
+
+  connected : (f : Cond → Cond → Cond) → Level (C >>= λ s. C >>= λ t. done (f s t)) (twice C)
+  unfolding twice
+  connected f = level-bind C (λ s. level-done C (f s))
+
+  -- ---- behind each token
+  module _ (frame : List ℕ) (at t : ℕ) where
+    abbrev OnE : {A : Type 0} → ℕ → Reader A → Type 0
+    OnE k m = t ≡ k → skipped frame at (behindE cols t) ≡ skipped frame at m
+
+    abbrev OnC : {A : Type 0} → ℕ → Reader A → Type 0
+    OnC k m = t ≡ k → skipped frame at (behindC cols t) ≡ skipped frame at m
+
+    onE : {A : Type 0} (k : ℕ) {m : Reader A} → Level (choose (expressions cols E C) k) m → OnE k m
+    unfolding behindE
+    onE k l e = rw e (level-at frame at l)
+
+    onC : {A : Type 0} (k : ℕ) {m : Reader A} → Level (choose (conditions E C) k) m → OnC k m
+    unfolding behindC
+    onC k l e = rw e (level-at frame at l)
+
+    pub on-constant : OnE 0x00 twoBytes
+    on-constant = onE 0x00 (level-bind byte (λ h. level-bind byte (λ l. record { same = λ _ _. refl })))
+
+    pub on-place : OnE 0x01 (place cols)
+    on-place = onE 0x01 level-refl
+
+    on-sum : OnE 0x02 (twice E)
+    on-sum = onE 0x02 (two-trees (Expr.operation Operation.sum))
+
+    on-difference : OnE 0x03 (twice E)
+    on-difference = onE 0x03 (two-trees (Expr.operation Operation.difference))
+
+    on-product : OnE 0x04 (twice E)
+    on-product = onE 0x04 (two-trees (Expr.operation Operation.product))
+
+    pub on-operation : (t ≡ 0x00 → ⊥) → (t ≡ 0x01 → ⊥) → t ≤ 0x04 → skipped frame at (behindE cols t) ≡ skipped frame at (twice E)
+    on-operation a b h =
+        by-test (eqb t 0x02)
+        (λ e. on-sum (eqb-true t 0x02 e))
+        (λ n. by-test (eqb t 0x03)
+        (λ e. on-difference (eqb-true t 0x03 e))
+        (λ m. let p = eqb-false t 0x02 n in let q = eqb-false t 0x03 m in on-product (omega arith)))
+
+    pub on-rounding : OnE 0x05 (step >>= λ _. E)
+    on-rounding = onE 0x05 (level-bind step (λ m. level-done E (Expr.rounding m)))
+
+    pub on-choice : OnE 0x06 (C >>= λ _. twice E)
+    on-choice = onE 0x06 (level-bind C (λ c. two-trees (Expr.choice c)))
+
+    pub on-aggregate : OnE 0x07 (byteIf 5 (λ b. leb 0 b && leb b 3) >>= λ _. E)
+    on-aggregate = onE 0x07 (record { same = go })
+      where
+        node : ℕ → Reader Expr
+        node n = E >>= λ a. done (Expr.aggregate (aggregateAt n) a)
+
+        go : (frame bs : List ℕ) → skipOf frame ((byteIf 5 (λ n. leb n 3) >>= node) bs) ≡ skipOf frame ((byteIf 5 (λ b. leb 0 b && leb b 3) >>= λ _. E) bs)
+        go frame [] = refl
+        go frame (b ∷ bs) =
+            let z : leb 0 b ≡ true = le-leb 0 b (omega arith) in
+            rw z (level-bind (byteIf 5 (λ n. leb n 3)) (λ n. level-done E (Expr.aggregate (aggregateAt n))) .same frame (b ∷ bs))
+
+    pub unknownE : 8 ≤ t → skipped frame at (behindE cols t) ≡ Refused 4
+    unfolding skipped behindE
+    unknownE h =
+        rw (
+          ne-eqb t 0x00 (λ e. omega arith),
+          ne-eqb t 0x01 (λ e. omega arith),
+          ne-eqb t 0x02 (λ e. omega arith),
+          ne-eqb t 0x03 (λ e. omega arith),
+          ne-eqb t 0x04 (λ e. omega arith),
+          ne-eqb t 0x05 (λ e. omega arith),
+          ne-eqb t 0x06 (λ e. omega arith),
+          ne-eqb t 0x07 (λ e. omega arith),
+        )
+
+    pub on-always : at ≤ length frame → t ≡ 0x10 → skipped frame at (behindC cols t) ≡ Next at
+    on-always h e = onC 0x10 {m = done Cond.always} level-refl e ∙ next-is frame (done Cond.always) at at h refl
+
+    on-equal : OnC 0x11 (twice E)
+    on-equal = onC 0x11 (two-trees (Cond.comparison Comparison.equal))
+
+    on-less : OnC 0x12 (twice E)
+    on-less = onC 0x12 (two-trees (Cond.comparison Comparison.less))
+
+    on-less-equal : OnC 0x13 (twice E)
+    on-less-equal = onC 0x13 (two-trees (Cond.comparison Comparison.lessEqual))
+
+    pub on-comparison : 0x11 ≤ t → t ≤ 0x13 → skipped frame at (behindC cols t) ≡ skipped frame at (twice E)
+    on-comparison l h =
+        by-test (eqb t 0x11)
+        (λ e. on-equal (eqb-true t 0x11 e))
+        (λ n. by-test (eqb t 0x12)
+        (λ e. on-less (eqb-true t 0x12 e))
+        (λ m. let p = eqb-false t 0x11 n in let q = eqb-false t 0x12 m in on-less-equal (omega arith)))
+
+    pub on-negated : OnC 0x14 C
+    on-negated = onC 0x14 (level-done C Cond.negated)
+
+    on-conjunction : OnC 0x15 (twice C)
+    on-conjunction = onC 0x15 (connected (Cond.connection Connective.conjunction))
+
+    on-disjunction : OnC 0x16 (twice C)
+    on-disjunction = onC 0x16 (connected (Cond.connection Connective.disjunction))
+
+    pub on-connection : 0x15 ≤ t → t ≤ 0x16 → skipped frame at (behindC cols t) ≡ skipped frame at (twice C)
+    on-connection l h =
+        by-test (eqb t 0x15)
+        (λ e. on-conjunction (eqb-true t 0x15 e))
+        (λ n. let p = eqb-false t 0x15 n in on-disjunction (omega arith))
+
+    pub unknownC : (0x10 ≤ t → 0x17 ≤ t) → skipped frame at (behindC cols t) ≡ Refused 4
+    unfolding skipped behindC
+    unknownC h =
+        rw (
+          ne-eqb t 0x10 (λ e. no-token (omega arith) (omega arith)),
+          ne-eqb t 0x11 (λ e. no-token (omega arith) (omega arith)),
+          ne-eqb t 0x12 (λ e. no-token (omega arith) (omega arith)),
+          ne-eqb t 0x13 (λ e. no-token (omega arith) (omega arith)),
+          ne-eqb t 0x14 (λ e. no-token (omega arith) (omega arith)),
+          ne-eqb t 0x15 (λ e. no-token (omega arith) (omega arith)),
+          ne-eqb t 0x16 (λ e. no-token (omega arith) (omega arith)),
+        )
+      where
+        no-token : 0x10 ≤ t → t ≤ 0x16 → ⊥
+        no-token p q = omega (arith, h p)
+
+  -- ---- a form
+  module _ (frame : List ℕ) (at : ℕ) where
+    abbrev Due : Bool → Skip
+    Due b = cond b (skipped frame at C) (skipped frame at E)
+
+    pub form-ends : (b : Bool) → length frame ≤ at → Due b ≡ Refused 4
+    form-ends true h = past-end frame (fieldC cols) at h
+    form-ends false h = past-end frame (fieldE cols) at h
+
+    module _ (lt : at < length frame) where
+      pub formE : skipped frame at E ≡ skipped frame (at + 1) (behindE cols (getD frame at 0))
+      unfolding skipped behindE
+      formE = ap (λ bs. skipOf frame (E bs)) (from-byte frame at lt) ∙ ap (skipOf frame) (readE-step cols _ _)
+
+      pub formC : skipped frame at C ≡ skipped frame (at + 1) (behindC cols (getD frame at 0))
+      unfolding skipped behindC
+      formC = ap (λ bs. skipOf frame (C bs)) (from-byte frame at lt) ∙ ap (skipOf frame) (readC-step cols _ _)
+
+      pub not-condition : getD frame at 0 < 0x10 → skipped frame at C ≡ Refused 4
+      not-condition h = formC ∙ unknownC frame (at + 1) (getD frame at 0) (λ l. omega arith)
+
+      pub not-expression : 8 ≤ getD frame at 0 → skipped frame at E ≡ Refused 4
+      not-expression h = formE ∙ unknownE frame (at + 1) (getD frame at 0) h
+
+      pub no-form : (b : Bool) → 8 ≤ getD frame at 0 → (0x10 ≤ getD frame at 0 → 0x17 ≤ getD frame at 0) → Due b ≡ Refused 4
+      no-form true h k = formC ∙ unknownC frame (at + 1) (getD frame at 0) k
+      no-form false h k = not-expression h
+
+  -- ---- two forms
+  module _ (frame : List ℕ) (at : ℕ) where
+    pub pair-further : (b : Bool) {n : ℕ} {r : Skip} → r ≡ Due frame at b → r ≡ Next n → (at ≤ n) × (n ≤ length frame)
+    pair-further true e k = then-further frame (fieldC cols) at e k
+    pair-further false e k = then-further frame (fieldE cols) at e k
+
+    abbrev Two : Bool → Skip
+    Two b = cond b (skipped frame at (twice C)) (skipped frame at (twice E))
+
+    pub pair-next : (b : Bool) {n : ℕ} {r : Skip} → r ≡ Due frame at b → r ≡ Next n → Two b ≡ Due frame n b
+    unfolding twice
+    pair-next true e k = then-next frame (fieldC cols) at e k (λ _. level-refl)
+    pair-next false e k = then-next frame (fieldE cols) at e k (λ _. level-refl)
+
+    pub pair-stop : (b : Bool) {n : ℕ} {r : Skip} → r ≡ Due frame at b → r ≡ Refused n → Two b ≡ Refused n
+    unfolding twice
+    pair-stop true {n} e k = then-stop frame C (λ _. C) at n e k
+    pair-stop false {n} e k = then-stop frame E (λ _. E) at n e k

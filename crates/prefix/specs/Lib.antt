@@ -1,0 +1,2 @@
+-- What a reader must believe of skipping.
+pub mod Skipped

@@ -1,0 +1,28 @@
+-- Where a reader ends on the bytes of a frame, or the number of its refusal. Assumes nothing: these are definitions, and they compute.
+use mathlib.Core.List.{List}
+use Prim.Native.Nat.{ℕ, _-_}
+use lib.ListN.{length, drop}
+use Rattle.meaning.specs.Syntax.{Expr, Cond}
+use Rattle.meaning.specs.Reading.{Read, Reader, _>>=_, choose, expressions, conditions, readE, readC}
+use Rattle.prefix.specs.declared.Skip.{Skip}
+use Rattle.prefix.specs.declared.Skip.the-variants.{Next, Refused}
+
+-- what was read aside: where the bytes behind it start
+abbrev pub skipOf : {A : Type 0} → List ℕ → Read A → Skip
+skipOf frame (Read.ok a rest) = Next (length frame - length rest)
+skipOf frame (Read.refused n) = Refused n
+
+-- what the reader finds from the position `at` of the frame
+unfoldable pub skipped : {A : Type 0} → List ℕ → ℕ → Reader A → Skip
+skipped frame at m = skipOf frame (m (drop at frame))
+
+-- two of the same
+unfoldable pub twice : {A : Type 0} → Reader A → Reader A
+twice r = r >>= λ _. r
+
+-- what stands behind a token
+unfoldable pub behindE : List ℕ → ℕ → Reader Expr
+behindE cols t = choose (expressions cols (readE cols) (readC cols)) t
+
+unfoldable pub behindC : List ℕ → ℕ → Reader Cond
+behindC cols t = choose (conditions (readE cols) (readC cols)) t
