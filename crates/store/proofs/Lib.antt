@@ -1,0 +1,4 @@
+-- The laws, lowest first.
+pub mod Listed
+pub mod CellLaws
+pub mod RowLaws

@@ -1,0 +1,3 @@
+-- What a reader must believe of the work area.
+pub mod Layout
+pub mod Rows
