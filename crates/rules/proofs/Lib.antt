@@ -16,3 +16,16 @@ pub mod LegalAccepted
 pub mod LegalBytes
 pub mod TextLaws
 pub mod Examples
+-- frames of fixed layout
+pub mod SizedLaws
+pub mod BodyLaws
+pub mod PairLaws
+pub mod FixedLaws
+pub mod FixedAnswers
+pub mod FitLaws
+-- the arrays
+pub mod CatalogLaws
+pub mod EntryLaws
+pub mod SetLaws
+pub mod TableLaws
+pub mod CandidateLaws

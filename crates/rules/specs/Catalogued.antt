@@ -2,12 +2,12 @@
 -- definitions.
 use mathlib.Core.Path.{_≡_}
 use mathlib.Core.List.{List}
-use Prim.Native.Nat.{ℕ, _<_}
+use Prim.Native.Nat.{ℕ, _<_, _≤_}
 use lib.IntN.{ℤ}
 use lib.ListN.{length, getD, drop}
 use Rattle.meaning.specs.Reading.{Reader}
 use Rattle.meaning.specs.Bounds.{schema}
-use Rattle.bounds.specs.Catalog.{schemaIn, maskAt}
+use Rattle.bounds.specs.Catalog.{schemaIn, widthAt, maskAt}
 use Rattle.rules.specs.Draft.{Draft, Item, schemasOf}
 use Rattle.rules.specs.Frames.{noTable}
 use Rattle.rules.specs.Check.{Checked, readChecked}
@@ -17,6 +17,8 @@ pub record Catalogued (d : Draft) (shape : List ℕ) (ends : List ℤ) : Type 0 
   pub shape-size : length shape ≡ 64
   pub ends-size : length ends ≡ 256
   pub schemas : (i : ℕ) → schemaIn shape ends i ≡ schema (schemasOf d) i
+  -- a relation's columns end where the next relation's begin
+  pub widths : (i : ℕ) → widthAt shape i ≤ 8
   pub masks : (i : ℕ) → i < length (d .tables) → maskAt shape i ≡ maskOf (getD (d .tables) i noTable .key)
 
 -- the fault of a frame with one more: 0 for none

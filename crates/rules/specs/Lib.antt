@@ -8,3 +8,6 @@ pub mod Legal
 -- what the code's numbers and arrays stand for
 pub mod Faults
 pub mod Catalogued
+pub mod Layout
+pub mod Entries
+pub mod Packed

@@ -6,6 +6,7 @@ ghost use Rattle.rules.specs.Frames.{ending};
 ghost use Rattle.rules.specs.Faults.{first, faultAt, under, within, fromUnder};
 
 // The first fault of two; 0 is no fault.
+// Refused: the second always; the first always.
 pub fn first_of(m: u8, n: u8) -> u8
     ensures { λ r. ⌜ r ≡ first m n ⌝ }
 {
@@ -13,6 +14,7 @@ pub fn first_of(m: u8, n: u8) -> u8
 }
 
 // The byte at a place; 0 past the end.
+// Refused: 1 past the end; the first byte.
 pub fn byte_at(frame: &[u8], at: usize) -> u8
     ensures { λ r. ⌜ r ≡ getD (now (frame .entry)) at 0 ⌝ }
 {
@@ -20,6 +22,7 @@ pub fn byte_at(frame: &[u8], at: usize) -> u8
 }
 
 // A byte from lo to hi, else the fault `number`.
+// Refused: a byte below lo kept; a byte above lo refused.
 pub fn between(frame: &[u8], at: usize, number: u8, lo: u8, hi: u8) -> u8
     ensures { λ r. ⌜ r ≡ faultAt (now (frame .entry)) at (byteIf number (within lo hi)) ⌝ }
 {
@@ -37,6 +40,7 @@ pub fn between(frame: &[u8], at: usize, number: u8, lo: u8, hi: u8) -> u8
 }
 
 // A byte below n, else the fault `number`.
+// Refused: n itself kept; 4 for the number.
 pub fn below(frame: &[u8], at: usize, number: u8, n: u8) -> u8
     ensures { λ r. ⌜ r ≡ faultAt (now (frame .entry)) at (byteIf number (under n)) ⌝ }
 {
@@ -48,20 +52,22 @@ pub fn below(frame: &[u8], at: usize, number: u8, n: u8) -> u8
 }
 
 // A byte from lo on and below n, else the fault `number`.
+// Refused: n itself kept; lo itself refused.
 pub fn from_below(frame: &[u8], at: usize, number: u8, lo: u8, n: u8) -> u8
     ensures { λ r. ⌜ r ≡ faultAt (now (frame .entry)) at (byteIf number (fromUnder lo n)) ⌝ }
 {
     if frame.len() <= at {
         return 4;
     }
-    let b = frame[at];
-    if b < lo {
+    let i = frame[at];
+    if i < lo {
         return number;
     }
-    if b < n { 0 } else { number }
+    if i < n { 0 } else { number }
 }
 
 // Nothing from `at` on.
+// Refused: a fault where nothing is left; a surplus byte kept.
 pub fn ends_at(frame: &[u8], at: usize) -> u8
     ensures { λ r. ⌜ r ≡ faultAt (now (frame .entry)) at (ending at) ⌝ }
 {

@@ -1,0 +1,31 @@
+-- The same of the encoding of a tree in its limits: what stands at a position is read as that tree. Assumes nothing.
+use mathlib.Core.Path.{_≡_, ap, _∙_}
+use mathlib.Core.List.{List, _++_}
+use Prim.Native.Nat.{ℕ}
+use lib.IntN.{ℤ}
+use lib.ListN.{drop}
+use Rattle.meaning.specs.Syntax.{Expr, Cond}
+use Rattle.meaning.specs.Prefix.{encodeE, encodeC}
+use Rattle.meaning.specs.Reading.{readE, readC, InLimitsE, InLimitsC}
+use Rattle.meaning.specs.Bounds.{withinC, allowedE, allowedC}
+use Rattle.meaning.proofs.PrefixForms.{backE, backC}
+use Rattle.bounds.specs.Catalog.{itemsIn}
+use Rattle.bounds.specs.Walk.{columnsOf, widthsIn, rangedE, SizesE, TestsC}
+use Rattle.bounds.specs.declared.Rule.{Rule}
+use Rattle.bounds.specs.declared.Sized.{Sized}
+use Rattle.bounds.specs.declared.Tested.{Tested}
+
+module _ {frame : List ℕ} {at : ℕ} {items shape : List ℕ} {ends : List ℤ} {rule : Rule} where
+  pub encoded-sizes : {r : Sized} → SizesE frame at items shape ends rule r
+      → (e : Expr) (rest : List ℕ) → drop at frame ≡ encodeE e ++ rest → InLimitsE (widthsIn shape items) e
+      → (drop (r .next) frame ≡ rest)
+      × (r .allowed ≡ allowedE (columnsOf frame rule) (rule .grouped) e)
+      × (r .range ≡ rangedE (itemsIn shape ends items) (rule .bound) e)
+  encoded-sizes s e rest h l = s .sizes e rest (ap (readE (widthsIn shape items)) h ∙ backE (widthsIn shape items) e rest l)
+
+  pub encoded-tests : {r : Tested} → TestsC frame at items shape ends rule r
+      → (c : Cond) (rest : List ℕ) → drop at frame ≡ encodeC c ++ rest → InLimitsC (widthsIn shape items) c
+      → (drop (r .next) frame ≡ rest)
+      × (r .allowed ≡ allowedC (columnsOf frame rule) (rule .grouped) c)
+      × (r .within ≡ withinC (itemsIn shape ends items) (rule .bound) c)
+  encoded-tests s c rest h l = s .tests c rest (ap (readC (widthsIn shape items)) h ∙ backC (widthsIn shape items) c rest l)

@@ -1,0 +1,82 @@
+-- The definitions by computation: one table of two columns, 0 to 9 and -5 to 5, at most 4 rows, and a frame that begins with the
+-- grouping column (0, 1). Assumes nothing.
+use mathlib.Core.Path.{_≡_, refl}
+use mathlib.Core.Bool.{Bool, true, false}
+use mathlib.Core.List.{List, [], _∷_}
+use Prim.Native.Nat.{ℕ}
+use lib.IntN.{ℤ, pos, negsuc}
+use Rattle.value.specs.Integer.{minZ, maxZ}
+use Rattle.value.specs.Value.{Operation, Aggregate}
+use Rattle.range.specs.Ranges.{constantOf, columnOf}
+use Rattle.range.specs.declared.Ranged.{Ranged}
+use Rattle.range.specs.declared.Ranged.the-variants.{Within, Beyond}
+use Rattle.meaning.specs.Syntax.{Expr}
+use Rattle.meaning.specs.Bounds.{allowedE}
+use Rattle.bounds.specs.Catalog.{rangesFrom, itemsIn}
+use Rattle.bounds.specs.Walk.{placesFrom, columnsOf, columnIn, rangedE}
+
+abbrev shape : List ℕ
+shape = 1 ∷ 2 ∷ 4 ∷ 1 ∷ []
+
+abbrev ends : List ℤ
+ends = pos 0 ∷ pos 9 ∷ negsuc 4 ∷ pos 5 ∷ []
+
+abbrev column : ℕ → Expr
+column c = Expr.column 0 c
+
+abbrev total : Expr → Expr
+total e = Expr.aggregate Aggregate.sum e
+
+abbrev large : Expr
+large = Expr.constant (pos 32767)
+
+abbrev cube : Expr
+cube = Expr.operation Operation.product large (Expr.operation Operation.product large large)
+
+-- ---- ranges
+
+there : columnIn shape ends (0 ∷ []) 0 1 ≡ columnOf (negsuc 4) (pos 5)
+unfolding columnIn rangesFrom
+there = refl
+
+not-there : columnIn shape ends (0 ∷ []) 0 2 ≡ constantOf (pos 0)
+unfolding columnIn rangesFrom
+not-there = refl
+
+abbrev answer : Expr → Ranged
+answer e = rangedE (itemsIn shape ends (0 ∷ [])) 4 e
+
+of-a-sum : answer (total (column 1)) ≡ Within (columnOf (negsuc 19) (pos 20))
+unfolding rangedE rangesFrom minZ maxZ
+of-a-sum = refl
+
+-- a range inside counts, also where the whole fits
+inside-counts : answer (Expr.aggregate Aggregate.count cube) ≡ Beyond
+unfolding rangedE rangesFrom minZ maxZ
+inside-counts = refl
+
+-- ---- the rule on 07, in having or select
+
+abbrev permitted : Bool → Expr → Bool
+permitted grouped e =
+    allowedE (columnsOf (0 ∷ 1 ∷ []) (record { bound = 4; grouped = grouped; places = 0; count = 1 })) grouped e
+
+grouping-column : permitted true (column 1) ≡ true
+unfolding columnsOf placesFrom
+grouping-column = refl
+
+other-column : permitted true (column 0) ≡ false
+unfolding columnsOf placesFrom
+other-column = refl
+
+other-column-inside : permitted true (total (column 0)) ≡ true
+unfolding columnsOf placesFrom
+other-column-inside = refl
+
+inside-another : permitted true (total (total (column 0))) ≡ false
+unfolding columnsOf placesFrom
+inside-another = refl
+
+in-where : permitted false (total (column 0)) ≡ false
+unfolding columnsOf placesFrom
+in-where = refl

@@ -1,0 +1,255 @@
+-- What a walk answers at each token, from what it answers of the parts: one law for each kind of token. Assumes nothing.
+use mathlib.Core.Path.{_≡_, refl, sym, ap, ap₂, _∙_}
+use mathlib.Core.Bool.{Bool, true, false, _&&_}
+use mathlib.Core.List.{List, _∷_}
+use Prim.Native.Nat.{ℕ, zero, suc, _+_, _*_, _-_, _≤_, _<_}
+use native.Mathlib.Numerals.{add-one}
+use native.Mathlib.Omega.{arith}
+use lib.Dec.{eqb, leb}
+use lib.IntN.{ℤ}
+use lib.ListN.{length, getD, drop, drop-of-length-le}
+use lib.Seq.{drop-cons}
+use borrow.Author.Tests.{ne-eqb}
+use Rattle.value.specs.Integer.{bytesZ}
+use Rattle.value.specs.Value.{operationAt, comparisonAt, connectiveAt, aggregateAt}
+use Rattle.range.specs.Ranges.{ranged, constantOf}
+use Rattle.range.specs.declared.Range.{Range}
+use Rattle.range.specs.declared.Ranged.{Ranged}
+use Rattle.meaning.specs.Syntax.{Expr, Cond}
+use Rattle.meaning.specs.Prefix.{operationToken, comparisonToken, connectiveToken}
+use Rattle.meaning.specs.Reading.{Read, byte, byteIf, step, choose, expressions, conditions, readE, readC}
+use Rattle.meaning.specs.Bounds.{withinC, allowedE, allowedC}
+use Rattle.meaning.proofs.Readers.{then-ok}
+use Rattle.meaning.proofs.PrefixForms.{readE-nil, readC-nil, readE-step, readC-step, readE-operation, readC-comparison, readC-connection}
+use Rattle.bounds.specs.Catalog.{itemsIn}
+use Rattle.bounds.specs.Walk.{columnsOf, insideOf, widthsIn, rangedE, operatedR, roundedR, chosenR, aggregatedR, isWithin, sized, tested, columnAt, SizesE, SizesTwo, TestsC}
+use Rattle.bounds.specs.declared.Rule.{Rule}
+use Rattle.bounds.specs.declared.Sized.{Sized}
+use Rattle.bounds.specs.declared.Pair.{Pair}
+use Rattle.bounds.specs.declared.Tested.{Tested}
+use Rattle.bounds.proofs.Fields.{settle, never, byte-ok, two-read, step-at, column-at, kind-at}
+use Rattle.bounds.proofs.Parts.{ranged-constant, ranged-column, ranged-operation, ranged-rounding, ranged-choice, ranged-aggregate, ranged-is}
+
+-- ---- a token's kind
+
+operation-token : (k : ℕ) → k < 3 → 0x02 + k ≡ operationToken (operationAt k)
+operation-token zero h = refl
+operation-token (suc zero) h = refl
+operation-token (suc (suc k)) h = let z : k ≡ 0 = omega arith in rw z
+
+comparison-token : (k : ℕ) → k < 3 → 0x11 + k ≡ comparisonToken (comparisonAt k)
+comparison-token zero h = refl
+comparison-token (suc zero) h = refl
+comparison-token (suc (suc k)) h = let z : k ≡ 0 = omega arith in rw z
+
+connective-token : (k : ℕ) → k < 2 → 0x15 + k ≡ connectiveToken (connectiveAt k)
+connective-token zero h = refl
+connective-token (suc k) h = let z : k ≡ 0 = omega arith in rw z
+
+module _ (frame items shape : List ℕ) (ends : List ℤ) (rule : Rule) where
+  abbrev W : List ℕ
+  W = widthsIn shape items
+
+  abbrev I : List (List Range)
+  I = itemsIn shape ends items
+
+  -- what is known of an expression that was read, and of a condition
+  abbrev FactsE : Sized → Expr → List ℕ → Type 0
+  FactsE r e rest =
+      (drop (r .next) frame ≡ rest) × (r .allowed ≡ allowedE (columnsOf frame rule) (rule .grouped) e) × (r .range ≡ rangedE I (rule .bound) e)
+
+  abbrev FactsC : Tested → Cond → List ℕ → Type 0
+  FactsC r c rest =
+      (drop (r .next) frame ≡ rest) × (r .allowed ≡ allowedC (columnsOf frame rule) (rule .grouped) c) × (r .within ≡ withinC I (rule .bound) c)
+
+  module _ (at : ℕ) where
+    pub two-in-turn : {a b : Sized} → SizesE frame at items shape ends rule a → SizesE frame (a .next) items shape ends rule b
+        → SizesTwo frame at items shape ends rule (record { next = b .next; allowed = a .allowed && b .allowed; first = a .range; second = b .range })
+    two-in-turn p q = record {
+      further = omega (arith, p .further, q .further);
+      sizes = λ x y mid rest h k.
+          let l = p .sizes x mid h in
+          let m = q .sizes y rest (ap (readE W) (l .0) ∙ k) in
+          (m .0, ap₂ _&&_ (l .1) (m .1), l .2, m .2);
+    }
+
+    pub endE : length frame ≤ at → {r : Sized} {b : Bool} {v : Ranged} → r ≡ sized at b v
+        → SizesE frame at items shape ends rule r
+    endE p s = rw s (record {
+      further = omega arith;
+      sizes = λ e rest q. never (sym (ap (readE W) (drop-of-length-le frame p) ∙ readE-nil W) ∙ q);
+    })
+
+    pub endC : length frame ≤ at → {r : Tested} {b w : Bool} → r ≡ tested at b w
+        → TestsC frame at items shape ends rule r
+    endC p s = rw s (record {
+      further = omega arith;
+      tests = λ c rest q. never (sym (ap (readC W) (drop-of-length-le frame p) ∙ readC-nil W) ∙ q);
+    })
+
+    module _ (lt : at < length frame) where
+      abbrev body : List ℕ
+      body = drop (at + 1) frame
+
+      token : (t : ℕ) → getD frame at 0 ≡ t → drop at frame ≡ t ∷ body
+      token t e = drop-cons frame at 0 lt ∙ rw (e, add-one)
+
+      onE : {x : Read Expr} {r : Sized} → readE W (drop at frame) ≡ x → at ≤ r .next
+          → ((e : Expr) (rest : List ℕ) → x ≡ Read.ok e rest → FactsE r e rest) → SizesE frame at items shape ends rule r
+      onE h le f = record { further = le; sizes = λ e rest q. f e rest (sym h ∙ q) }
+
+      onC : {x : Read Cond} {r : Tested} → readC W (drop at frame) ≡ x → at ≤ r .next
+          → ((c : Cond) (rest : List ℕ) → x ≡ Read.ok c rest → FactsC r c rest) → TestsC frame at items shape ends rule r
+      onC h le f = record { further = le; tests = λ c rest q. f c rest (sym h ∙ q) }
+
+      atE : (t : ℕ) → getD frame at 0 ≡ t → readE W (drop at frame) ≡ choose (expressions W (readE W) (readC W)) t body
+      atE t k = ap (readE W) (token t k) ∙ readE-step W t body
+
+      atC : (t : ℕ) → getD frame at 0 ≡ t → readC W (drop at frame) ≡ choose (conditions (readE W) (readC W)) t body
+      atC t k = ap (readC W) (token t k) ∙ readC-step W t body
+
+      -- ---- expressions
+      pub on-constant : getD frame at 0 ≡ 0x00
+          → {r : Sized} → r ≡ sized (at + 1 + 2) true (ranged (constantOf (bytesZ (getD frame (at + 1) 0) (getD frame (at + 1 + 1) 0))))
+          → SizesE frame at items shape ends rule r
+      on-constant k s = rw s (onE (atE 0x00 k) (omega arith) (λ e rest q.
+          let (h, l, p, j) = then-ok (byte body) _ q in
+          let (g, m, u, z) = then-ok (byte l) _ j in
+          let t = two-read frame (at + 1) (byte-ok body p) (byte-ok l u) in
+          settle (FactsE (sized (at + 1 + 2) true (ranged (constantOf (bytesZ (getD frame (at + 1) 0) (getD frame (at + 1 + 1) 0)))))) z
+          (t .behind, refl, ap₂ (λ i j. ranged (constantOf (bytesZ i j))) (t .first) (t .second) ∙ ranged-constant I (rule .bound) (bytesZ h g))))
+
+      pub on-column : getD frame at 0 ≡ 0x01 → {r : Sized} → r ≡ columnAt frame (at + 1) items shape ends rule → SizesE frame at items shape ends rule r
+      on-column k s = rw s (onE (atE 0x01 k) (omega arith) (λ e rest q.
+          let t = column-at frame W (at + 1) q in
+          rw (t .0) (t .1, refl, ranged-column shape ends items (rule .bound) (getD frame (at + 1) 0) (getD frame (at + 1 + 1) 0))))
+
+      pub on-operation : 0x02 ≤ getD frame at 0 → getD frame at 0 < 0x05 → {p : Pair} → SizesTwo frame (at + 1) items shape ends rule p
+          → {v : Ranged} → v ≡ operatedR (operationAt (getD frame at 0 - 0x02)) (p .first) (p .second)
+          → {r : Sized} → r ≡ sized (p .next) (p .allowed) v → SizesE frame at items shape ends rule r
+      on-operation lo hi {p} m {v} x s =
+          let op = operationAt (getD frame at 0 - 0x02) in
+          let k : getD frame at 0 ≡ 0x02 + (getD frame at 0 - 0x02) = omega arith in
+          let i : getD frame at 0 ≡ operationToken op = k ∙ operation-token (getD frame at 0 - 0x02) (omega arith) in
+          rw s (onE (ap (readE W) (token (operationToken op) i) ∙ readE-operation W op body) (omega (arith, m .further)) (λ e rest q.
+          let (a, l, y, j) = then-ok (readE W body) _ q in
+          let (b, n, u, z) = then-ok (readE W l) _ j in
+          let f = m .sizes a b l n y u in
+          settle (FactsE (sized (p .next) (p .allowed) v)) z
+          (f .0, f .1, x ∙ ap₂ (operatedR op) (f .2) (f .3) ∙ ranged-operation I (rule .bound) op a b)))
+
+      pub on-rounding : getD frame at 0 ≡ 0x05 → {a : Sized} → SizesE frame (at + 1 + 2) items shape ends rule a
+          → {m : ℕ} → m ≡ getD frame (at + 1) 0 * 256 + getD frame (at + 1 + 1) 0
+          → {r : Sized} → r ≡ sized (a .next) (a .allowed) (roundedR m (a .range)) → SizesE frame at items shape ends rule r
+      on-rounding k {a} d {m} e s = rw s (onE (atE 0x05 k) (omega (arith, d .further)) (λ y rest q.
+          let (n, l, h, j) = then-ok (step body) _ q in
+          let (b, o, u, z) = then-ok (readE W l) _ j in
+          let t = step-at frame (at + 1) h in
+          let f = d .sizes b o (ap (readE W) (t .behind) ∙ u) in
+          settle (FactsE (sized (a .next) (a .allowed) (roundedR m (a .range)))) z
+          (f .0, f .1, ap₂ roundedR (e ∙ sym (t .number)) (f .2) ∙ ranged-rounding I (rule .bound) n b)))
+
+      pub on-choice : getD frame at 0 ≡ 0x06 → {c : Tested} → TestsC frame (at + 1) items shape ends rule c
+          → {p : Pair} → SizesTwo frame (c .next) items shape ends rule p
+          → {r : Sized} → r ≡ sized (p .next) (c .allowed && p .allowed) (chosenR (c .within) (p .first) (p .second)) → SizesE frame at items shape ends rule r
+      on-choice k {c} d {p} m s = rw s (onE (atE 0x06 k) (omega (arith, d .further, m .further)) (λ y rest q.
+          let (t, l, h, j) = then-ok (readC W body) _ q in
+          let (a, n, u, i) = then-ok (readE W l) _ j in
+          let (b, o, w, z) = then-ok (readE W n) _ i in
+          let g = d .tests t l h in
+          let f = m .sizes a b n o (ap (readE W) (g .0) ∙ u) w in
+          let v : chosenR (c .within) (p .first) (p .second) ≡ chosenR (withinC I (rule .bound) t) (rangedE I (rule .bound) a) (rangedE I (rule .bound) b) =
+          rw (g .2, f .2, f .3) in
+          settle (FactsE (sized (p .next) (c .allowed && p .allowed) (chosenR (c .within) (p .first) (p .second)))) z
+          (f .0, ap₂ _&&_ (g .1) (f .1), v ∙ ranged-choice I (rule .bound) t a b)))
+
+      pub on-aggregate : getD frame at 0 ≡ 0x07 → {n : ℕ} → n ≡ getD frame (at + 1) 0 → {inner : Rule} → inner ≡ insideOf rule
+          → {a : Sized} → SizesE frame (at + 1 + 1) items shape ends inner a
+          → {r : Sized} → r ≡ sized (a .next) (rule .grouped && a .allowed) (aggregatedR (aggregateAt n) (rule .bound) (a .range)) → SizesE frame at items shape ends rule r
+      unfolding columnsOf
+      on-aggregate k {n} e {inner} i {a} d′ s =
+          let d : SizesE frame (at + 1 + 1) items shape ends (insideOf rule) a = rw i at d′ in
+          rw s (onE (atE 0x07 k) (omega (arith, d .further)) (λ y rest q.
+          let here : ℕ → Bool = λ b. leb b 3 in
+          let (o, l, h, j) = then-ok (byteIf 5 here body) _ q in
+          let (b, w, u, z) = then-ok (readE W l) _ j in
+          let t = kind-at frame (at + 1) here h in
+          let f = d .sizes b w (ap (readE W) (t .1) ∙ u) in
+          settle (FactsE (sized (a .next) (rule .grouped && a .allowed) (aggregatedR (aggregateAt n) (rule .bound) (a .range)))) z
+          (f .0, ap (λ c. rule .grouped && c) (f .1), ap₂ (λ c g. aggregatedR (aggregateAt c) (rule .bound) g) (e ∙ t .0) (f .2) ∙ ranged-aggregate I (rule .bound) (aggregateAt o) b)))
+
+      -- a token past the last
+      other : (t k : ℕ) → 0x08 ≤ t → k < 0x08 → eqb t k ≡ false
+      other t k h l = ne-eqb t k (λ e. omega arith)
+
+      pub unknownE : 0x08 ≤ getD frame at 0 → {b : Bool} {v : Ranged} {r : Sized} → r ≡ sized at b v → SizesE frame at items shape ends rule r
+      unknownE h s = rw s (onE (atE (getD frame at 0) refl) (omega arith) (λ e rest q. never (sym (none-of (getD frame at 0) h) ∙ q)))
+        where
+          none-of : (t : ℕ) → 0x08 ≤ t → choose (expressions W (readE W) (readC W)) t body ≡ Read.refused 4
+          none-of t l =
+              rw (
+                other t 0x00 l (omega arith),
+                other t 0x01 l (omega arith),
+                other t 0x02 l (omega arith),
+                other t 0x03 l (omega arith),
+                other t 0x04 l (omega arith),
+                other t 0x05 l (omega arith),
+                other t 0x06 l (omega arith),
+                other t 0x07 l (omega arith),
+              )
+
+      -- ---- conditions
+      pub on-always : getD frame at 0 ≡ 0x10 → {r : Tested} → r ≡ tested (at + 1) true true → TestsC frame at items shape ends rule r
+      on-always k s = rw s (onC (atC 0x10 k) (omega arith) (λ c rest q. settle (FactsC (tested (at + 1) true true)) q (refl, refl, refl)))
+
+      pub on-comparison : 0x11 ≤ getD frame at 0 → getD frame at 0 < 0x14 → {p : Pair} → SizesTwo frame (at + 1) items shape ends rule p
+          → {u w : Bool} → u ≡ isWithin (p .first) → w ≡ isWithin (p .second)
+          → {r : Tested} → r ≡ tested (p .next) (p .allowed) (u && w) → TestsC frame at items shape ends rule r
+      on-comparison lo hi {p} m {u} {w} x y s =
+          let op = comparisonAt (getD frame at 0 - 0x11) in
+          let k : getD frame at 0 ≡ 0x11 + (getD frame at 0 - 0x11) = omega arith in
+          let i : getD frame at 0 ≡ comparisonToken op = k ∙ comparison-token (getD frame at 0 - 0x11) (omega arith) in
+          rw s (onC (ap (readC W) (token (comparisonToken op) i) ∙ readC-comparison W op body) (omega (arith, m .further)) (λ c rest q.
+          let (a, l, g, j) = then-ok (readE W body) _ q in
+          let (b, n, h, z) = then-ok (readE W l) _ j in
+          let f = m .sizes a b l n g h in
+          settle (FactsC (tested (p .next) (p .allowed) (u && w))) z
+          (f .0, f .1, ap₂ _&&_ (x ∙ ap isWithin (f .2) ∙ ranged-is I (rule .bound) a) (y ∙ ap isWithin (f .3) ∙ ranged-is I (rule .bound) b))))
+
+      pub on-negated : getD frame at 0 ≡ 0x14 → {r : Tested} → TestsC frame (at + 1) items shape ends rule r → TestsC frame at items shape ends rule r
+      on-negated k {r} d = onC (atC 0x14 k) (omega (arith, d .further)) (λ c rest q.
+          let (t, l, h, z) = then-ok (readC W body) _ q in
+          settle (FactsC r) z (d .tests t l h))
+
+      pub on-connection : 0x15 ≤ getD frame at 0 → getD frame at 0 < 0x17 → {a : Tested} → TestsC frame (at + 1) items shape ends rule a
+          → {b : Tested} → TestsC frame (a .next) items shape ends rule b
+          → {r : Tested} → r ≡ tested (b .next) (a .allowed && b .allowed) (a .within && b .within) → TestsC frame at items shape ends rule r
+      on-connection lo hi {a} d {b} m s =
+          let op = connectiveAt (getD frame at 0 - 0x15) in
+          let k : getD frame at 0 ≡ 0x15 + (getD frame at 0 - 0x15) = omega arith in
+          let i : getD frame at 0 ≡ connectiveToken op = k ∙ connective-token (getD frame at 0 - 0x15) (omega arith) in
+          rw s (onC (ap (readC W) (token (connectiveToken op) i) ∙ readC-connection W op body) (omega (arith, d .further, m .further)) (λ c rest q.
+          let (t, l, g, j) = then-ok (readC W body) _ q in
+          let (u, n, h, z) = then-ok (readC W l) _ j in
+          let f = d .tests t l g in
+          let e = m .tests u n (ap (readC W) (f .0) ∙ h) in
+          settle (FactsC (tested (b .next) (a .allowed && b .allowed) (a .within && b .within))) z
+          (e .0, ap₂ _&&_ (f .1) (e .1), ap₂ _&&_ (f .2) (e .2))))
+
+      pub unknownC : (0x10 ≤ getD frame at 0 → getD frame at 0 < 0x17 → ⊥) → {b w : Bool} {r : Tested} → r ≡ tested at b w → TestsC frame at items shape ends rule r
+      unknownC h s = rw s (onC (atC (getD frame at 0) refl) (omega arith) (λ c rest q. never (sym (none-of (getD frame at 0) h) ∙ q)))
+        where
+          not-in : (t k : ℕ) → (0x10 ≤ t → t < 0x17 → ⊥) → 0x10 ≤ k → k < 0x17 → eqb t k ≡ false
+          not-in t k n l u = ne-eqb t k (λ e. n (omega arith) (omega arith))
+
+          none-of : (t : ℕ) → (0x10 ≤ t → t < 0x17 → ⊥) → choose (conditions (readE W) (readC W)) t body ≡ Read.refused 4
+          none-of t n =
+              rw (
+                not-in t 0x10 n (omega arith) (omega arith),
+                not-in t 0x11 n (omega arith) (omega arith),
+                not-in t 0x12 n (omega arith) (omega arith),
+                not-in t 0x13 n (omega arith) (omega arith),
+                not-in t 0x14 n (omega arith) (omega arith),
+                not-in t 0x15 n (omega arith) (omega arith),
+                not-in t 0x16 n (omega arith) (omega arith),
+              )

@@ -1,0 +1,99 @@
+-- The arrays after a union or an intersection stand for the draft with it. Assumes nothing.
+use mathlib.Core.Path.{_≡_, refl, sym, ap, ap₂, _∙_}
+use mathlib.Core.List.{List, [], _∷_}
+use Prim.Native.Nat.{ℕ, zero, suc, _+_, _*_, _≤_, _<_, min}
+use native.Mathlib.Omega.{arith}
+use lib.IntN.{ℤ}
+use lib.ListN.{length, getD}
+use lib.Signed.{leZ}
+use Rattle.value.specs.Integer.{minZ, maxZ}
+use Rattle.value.proofs.Decides.{by-test}
+use Rattle.range.specs.declared.Range.{Range}
+use Rattle.range.specs.Ranges.{hullOf}
+use Rattle.meaning.specs.Syntax.{View}
+use Rattle.meaning.specs.Bounds.{Schema, schema, hulls}
+use Rattle.bounds.specs.Catalog.{widthAt, boundAt, rangesFrom, rangesIn}
+use Rattle.rules.specs.Draft.{Draft, relationCount, schemasOf}
+use Rattle.rules.specs.Catalogued.{Catalogued}
+use Rattle.rules.specs.Entries.{putShape, putRanges, hullAt, HullsPut, SetEntered, Outside}
+use Rattle.rules.proofs.CatalogLaws.{none, length-ranges, puts-outside, puts-ranges}
+use Rattle.rules.proofs.EntryLaws.{view-entered}
+
+-- ---- hulls
+
+length-hulls : (as′ bs : List Range) → length (hulls as′ bs) ≡ min (length as′) (length bs)
+length-hulls [] bs = omega arith
+length-hulls (a ∷ as′) [] = omega arith
+length-hulls (a ∷ as′) (b ∷ bs) = omega (arith, length-hulls as′ bs)
+
+hulls-at : (as′ bs : List Range) (c : ℕ) → c < length as′ → c < length bs → getD (hulls as′ bs) c none ≡ hullOf (getD as′ c none) (getD bs c none)
+hulls-at [] bs c h k = absurd (omega arith)
+hulls-at (a ∷ as′) [] c h k = absurd (omega arith)
+hulls-at (a ∷ as′) (b ∷ bs) zero h k = refl
+hulls-at (a ∷ as′) (b ∷ bs) (suc c) h k = hulls-at as′ bs c (omega arith) (omega arith)
+
+min-self : (z : ℤ) → minZ z z ≡ z
+unfolding minZ
+min-self z = by-test (leZ z z) (λ e. rw e) (λ e. rw e)
+
+max-self : (z : ℤ) → maxZ z z ≡ z
+unfolding maxZ
+max-self z = by-test (leZ z z) (λ e. rw e) (λ e. rw e)
+
+-- the hull of a range with itself is that range
+hull-self : (x : Range) → hullOf x x ≡ x
+hull-self x = ap₂ (λ l h. record { lo = l; hi = h }) (min-self (x .lo)) (max-self (x .hi))
+
+-- ---- what is stored
+
+module _ {d : Draft} {shape : List ℕ} {ends : List ℤ} (c : Catalogued d shape ends) where
+  bound-is : (i : ℕ) → schema (schemasOf d) i .bound ≡ boundAt shape i
+  bound-is i = ap (λ (s : Schema). s .bound) (sym (c .schemas i))
+
+  ranges-are : (i : ℕ) → schema (schemasOf d) i .ranges ≡ rangesIn shape ends i
+  ranges-are i = ap (λ (s : Schema). s .ranges) (sym (c .schemas i))
+
+  module _ (left right r width : ℕ) (after : List ℤ) (e : r ≡ relationCount d)
+      (l : left < relationCount d) (k : right < relationCount d) (p : HullsPut left right r width shape ends after) where
+    put : after ≡ putRanges (hullAt shape ends left right) ends r width
+    put = p .stored (record { earlier = omega arith; narrow = c .widths left }) (record { earlier = omega arith; narrow = c .widths right })
+
+    put-outside : width ≤ 8 → Outside r ends after
+    put-outside w = rw put (puts-outside (hullAt shape ends left right) ends r width w)
+
+    put-ranges : r < 16 → width ≤ 8 → (rs : List Range) → length rs ≡ width → ((c : ℕ) → c < width → hullAt shape ends left right c ≡ getD rs c none)
+        → rangesFrom after (16 * r) width ≡ rs
+    put-ranges s w rs n same = rw put (puts-ranges (hullAt shape ends left right) ends r s (c .ends-size) width w rs n same)
+
+module _ (left right r width bound : ℕ) (shape : List ℕ) (ends : List ℤ) (shape′ : List ℕ) (ends′ : List ℤ) (s : shape′ ≡ putShape shape r 2 width bound 0) where
+  pub union-entered : width ≡ min (widthAt shape left) (widthAt shape right) → bound ≡ min (boundAt shape left + boundAt shape right) 255
+      → HullsPut left right r width shape ends ends′ → SetEntered View.union left right r shape ends shape′ ends′
+  unfolding hullAt
+  union-entered w b p = record {
+    entered = λ d c e z l k m.
+        let L = rangesIn shape ends left in
+        let R = rangesIn shape ends right in
+        let few : width ≤ 8 = omega (arith, c .widths left) in
+        let lw : length L ≡ widthAt shape left = length-ranges ends (16 * left) (widthAt shape left) in
+        let rw′ : length R ≡ widthAt shape right = length-ranges ends (16 * right) (widthAt shape right) in
+        let n : length (hulls L R) ≡ width = omega (arith, length-hulls L R) in
+        let bounds : schema (schemasOf d) left .bound + schema (schemasOf d) right .bound ≡ bound = omega (arith, bound-is c left, bound-is c right) in
+        let ranges : rangesFrom ends′ (16 * r) width ≡ hulls L R = put-ranges c left right r width ends′ e l k p z few (hulls L R) n
+        (λ i h. sym (hulls-at L R i (omega arith) (omega arith))) in
+        view-entered d (View.union left right) r 2 width bound 0 shape ends shape′ ends′ c e z few s (put-outside c left right r width ends′ e l k p few)
+        (ap₂ (λ a rs. record { bound = a; ranges = rs }) bounds (ap₂ hulls (ranges-are c left) (ranges-are c right) ∙ sym ranges));
+  }
+
+  pub intersection-entered : width ≡ widthAt shape left → bound ≡ min (boundAt shape left) (boundAt shape right)
+      → HullsPut left left r width shape ends ends′ → SetEntered View.intersection left right r shape ends shape′ ends′
+  unfolding hullAt
+  intersection-entered w b p = record {
+    entered = λ d c e z l k m.
+        let L = rangesIn shape ends left in
+        let few : width ≤ 8 = omega (arith, c .widths left) in
+        let n : length L ≡ width = length-ranges ends (16 * left) (widthAt shape left) ∙ sym w in
+        let bounds : min (schema (schemasOf d) left .bound) (schema (schemasOf d) right .bound) ≡ bound = omega (arith, bound-is c left, bound-is c right) in
+        let ranges : rangesFrom ends′ (16 * r) width ≡ L = put-ranges c left left r width ends′ e l l p z few L n (λ i h. hull-self (getD L i none)) in
+        view-entered d (View.intersection left right) r 2 width bound 0 shape ends shape′ ends′ c e z few s (put-outside c left left r width ends′ e l l p few)
+        (ap₂ (λ a rs. record { bound = a; ranges = rs }) bounds (ranges-are c left ∙ sym ranges));
+  }

@@ -1,0 +1,73 @@
+-- What a frame without fault adds to the checker's arrays. Assumes nothing: these are definitions.
+use mathlib.Core.Path.{_≡_}
+use mathlib.Core.List.{List, []}
+use Prim.Native.Nat.{ℕ, zero, suc, _+_, _*_, _<_, _≤_}
+use lib.IntN.{ℤ, pos}
+use lib.ListN.{length, getD, drop, set}
+use Rattle.value.specs.Integer.{bytesZ}
+use Rattle.value.specs.Value.{Column}
+use Rattle.range.specs.declared.Range.{Range}
+use Rattle.range.specs.Ranges.{constantOf, columnOf, hullOf}
+use Rattle.meaning.specs.Syntax.{Table, View}
+use Rattle.meaning.specs.Reading.{Read}
+use Rattle.meaning.specs.Bounds.{viewSchema}
+use Rattle.bounds.specs.Catalog.{widthAt, rangesIn}
+use Rattle.rules.specs.Draft.{Draft, Item, added, relationCount, schemasOf}
+use Rattle.rules.specs.Frames.{tableFrame}
+use Rattle.rules.specs.Catalogued.{Catalogued}
+
+-- ---- the arrays after a store; a place past the end is left out
+
+unfoldable pub putRange : List ℤ → ℕ → ℕ → Range → List ℤ
+putRange ends r c x = set (set ends (16 * r + 2 * c) (x .lo)) (16 * r + 2 * c + 1) (x .hi)
+
+unfoldable pub putShape : List ℕ → ℕ → ℕ → ℕ → ℕ → ℕ → List ℕ
+putShape shape r kind width bound mask =
+    set (set (set (set shape (4 * r) kind) (4 * r + 1) width) (4 * r + 2) bound) (4 * r + 3) mask
+
+-- the first n columns of relation r, in turn
+unfoldable pub putRanges : (ℕ → Range) → List ℤ → ℕ → ℕ → List ℤ
+putRanges f ends r zero = ends
+putRanges f ends r (suc n) = putRange (putRanges f ends r n) r n (f n)
+
+-- ---- what is stored
+
+abbrev pub rangeAt : List ℕ → List ℤ → ℕ → ℕ → Range
+rangeAt shape ends r c = getD (rangesIn shape ends r) c (constantOf (pos 0))
+
+-- the column whose lo and hi are the four bytes at a place
+unfoldable pub columnFrom : List ℕ → ℕ → Column
+columnFrom packed at =
+    record { lo = bytesZ (getD packed at 0) (getD packed (at + 1) 0); hi = bytesZ (getD packed (at + 2) 0) (getD packed (at + 3) 0) }
+
+-- column c of a table's frame
+unfoldable pub columnIn : List ℕ → ℕ → Range
+columnIn frame c = let x = columnFrom frame (4 * c + 4) in columnOf (x .lo) (x .hi)
+
+-- column c of a union
+unfoldable pub hullAt : List ℕ → List ℤ → ℕ → ℕ → ℕ → Range
+hullAt shape ends left right c = hullOf (rangeAt shape ends left c) (rangeAt shape ends right c)
+
+-- a relation before r, whose columns end before r's begin
+pub record Before (shape : List ℕ) (left r : ℕ) : Type 0 where
+  pub earlier : left < r
+  pub narrow : widthAt shape left ≤ 8
+
+pub record HullsPut (left right r width : ℕ) (shape : List ℕ) (ends after : List ℤ) : Type 0 where
+  pub stored : Before shape left r → Before shape right r → after ≡ putRanges (hullAt shape ends left right) ends r width
+
+-- ---- the arrays stand for the draft with what the frame adds
+
+pub record TableEntered (frame : List ℕ) (r : ℕ) (shape : List ℕ) (ends : List ℤ) (shape′ : List ℕ) (ends′ : List ℤ) : Type 0 where
+  pub entered : (d : Draft) (t : Table) → Catalogued d shape ends → r ≡ length (d .tables) → r < 16 → d .views ≡ []
+      → tableFrame (drop 1 frame) ≡ Read.ok (Item.table t) [] → Catalogued (added d (Item.table t)) shape′ ends′
+
+pub record SetEntered (set : ℕ → ℕ → View) (left right r : ℕ) (shape : List ℕ) (ends : List ℤ) (shape′ : List ℕ) (ends′ : List ℤ) : Type 0 where
+  pub entered : (d : Draft) → Catalogued d shape ends → r ≡ relationCount d → r < 16 → left < relationCount d → right < relationCount d
+      → viewSchema (schemasOf d) (set left right) .bound ≤ 64 → Catalogued (added d (Item.view (set left right))) shape′ ends′
+
+-- the part of ends that is not relation r's is as it was: what a function promises that stores a view's ranges
+pub record Outside (r : ℕ) (ends ends′ : List ℤ) : Type 0 where
+  pub size : length ends′ ≡ length ends
+  pub before : (k : ℕ) → k < 16 * r → getD ends′ k (pos 0) ≡ getD ends k (pos 0)
+  pub behind : (k : ℕ) → 16 * r + 16 ≤ k → getD ends′ k (pos 0) ≡ getD ends k (pos 0)

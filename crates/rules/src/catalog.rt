@@ -1,0 +1,258 @@
+// The checker's arrays: what is known of each relation, and what a frame without fault adds.
+use super::fields::byte_at;
+use range::Range;
+use value::domain::Domain;
+use value::integer;
+ghost use mathlib.Core.Path.{_≡_};
+ghost use Prim.Native.Nat.{_+_, _*_, _≤_, min};
+ghost use lib.IntN.{pos};
+ghost use lib.ListN.{getD, set};
+ghost use Rattle.value.specs.Machine.{columnOf};
+ghost use Rattle.meaning.specs.Syntax.{View};
+ghost use Rattle.bounds.specs.Catalog.{widthAt, boundAt, maskAt};
+ghost use Rattle.rules.specs.Entries.{putRange, putShape, putRanges, rangeAt, columnFrom, columnIn, HullsPut, TableEntered, SetEntered};
+ghost use Rattle.rules.specs.Packed.{tooMany, cappedProduct, columnsFrom, tableCells, cellsFrom, Counted};
+
+const TABLE: u8 = 1;
+
+const VIEW: u8 = 2;
+
+// The first number of candidates that is too large.
+const TOO_MANY: u64 = 16777217;
+
+// Refused: the kind; the row bound.
+pub fn width_of(shape: &[u8], r: u8) -> u8
+    ensures { λ w. ⌜ w ≡ widthAt (now (shape .entry)) r ⌝ }
+{
+    byte_at(shape, 4 * (r as usize) + 1)
+}
+
+// Refused: the number of columns; the key mask.
+pub fn bound_of(shape: &[u8], r: u8) -> u8
+    ensures { λ b. ⌜ b ≡ boundAt (now (shape .entry)) r ⌝ }
+{
+    byte_at(shape, 4 * (r as usize) + 2)
+}
+
+// Refused: the row bound; that of the first relation.
+pub fn mask_of(shape: &[u8], r: u8) -> u8
+    ensures { λ m. ⌜ m ≡ maskAt (now (shape .entry)) r ⌝ }
+{
+    byte_at(shape, 4 * (r as usize) + 3)
+}
+
+// The number at a place; 0 past the end.
+fn end_at(ends: &[i32], at: usize) -> i32
+    ensures { λ z. ⌜ z ≡ getD (now (ends .entry)) at (pos 0) ⌝ }
+{
+    if at < ends.len() { ends[at] } else { 0 }
+}
+
+// Where lo of a column stands; hi follows it.
+fn place_of(r: u8, c: u8) -> usize
+    ensures { λ at. ⌜ at ≡ 16 * r + 2 * c ⌝ }
+{
+    16 * (r as usize) + 2 * (c as usize)
+}
+
+// The range of a column; 0 to 0 at or past the number of columns.
+// Refused: lo for hi; 0 to 1 past the columns.
+pub fn range_at(shape: &[u8], ends: &[i32], r: u8, c: u8) -> Range
+    ensures { λ x. ⌜ x ≡ rangeAt (now (shape .entry)) (now (ends .entry)) r c ⌝ }
+{
+    if width_of(shape, r) <= c {
+        return Range { lo: 0, hi: 0 };
+    }
+    let at = place_of(r, c);
+    let lo = end_at(ends, at);
+    let hi = end_at(ends, at + 1);
+    Range { lo: lo, hi: hi }
+}
+
+fn put_end(ends: &mut [i32], at: usize, x: i32)
+    ensures { λ _. ⌜ now (ends .exit) ≡ set (now (ends .entry)) at x ⌝ }
+{
+    if at < ends.len() {
+        ends[at] = x;
+    }
+}
+
+// Lo and hi of a column; what would stand past the end is not stored.
+// Refused: lo for hi; hi for lo.
+pub fn put_range(ends: &mut [i32], r: u8, c: u8, range: Range)
+    ensures { λ _. ⌜ now (ends .exit) ≡ putRange (now (ends .entry)) r c range ⌝ }
+{
+    let at = place_of(r, c);
+    put_end(ends, at, range.lo);
+    put_end(ends, at + 1, range.hi);
+}
+
+fn put_byte(shape: &mut [u8], at: usize, b: u8)
+    ensures { λ _. ⌜ now (shape .exit) ≡ set (now (shape .entry)) at b ⌝ }
+{
+    if at < shape.len() {
+        shape[at] = b;
+    }
+}
+
+// The four bytes of a relation.
+// Refused: the row bound as number of columns; the mask as row bound.
+pub fn put_shape(shape: &mut [u8], r: u8, kind: u8, width: u8, bound: u8, mask: u8)
+    ensures { λ _. ⌜ now (shape .exit) ≡ putShape (now (shape .entry)) r kind width bound mask ⌝ }
+{
+    let at = 4 * (r as usize);
+    put_byte(shape, at, kind);
+    put_byte(shape, at + 1, width);
+    put_byte(shape, at + 2, bound);
+    put_byte(shape, at + 3, mask);
+}
+
+// The column whose four bytes stand at a place.
+fn domain_at(bytes: &[u8], at: usize) -> Domain
+    requires { ⌜ at ≤ 70000 ⌝ }
+    ensures { λ d. ⌜ columnOf d ≡ columnFrom (now (bytes .entry)) at ⌝ }
+{
+    let lo = integer::from_bytes(byte_at(bytes, at), byte_at(bytes, at + 1));
+    let hi = integer::from_bytes(byte_at(bytes, at + 2), byte_at(bytes, at + 3));
+    Domain { lo: lo, hi: hi }
+}
+
+// Column c of a table's frame.
+fn column_in(frame: &[u8], c: u8) -> Range
+    ensures { λ x. ⌜ x ≡ columnIn (now (frame .entry)) c ⌝ }
+{
+    let column = domain_at(frame, 4 * (c as usize) + 4);
+    Range::column(column.lo, column.hi)
+}
+
+// The columns of a table's frame as relation r's.
+fn put_columns(frame: &[u8], ends: &mut [i32], r: u8, width: u8)
+    ensures { λ _. ⌜ now (ends .exit) ≡ putRanges (columnIn (now (frame .entry))) (now (ends .entry)) r width ⌝ }
+{
+    let mut c: u8 = 0;
+    while c < width {
+        put_range(ends, r, c, column_in(frame, c));
+        c += 1;
+    }
+}
+
+// The table of a frame without fault as relation r.
+// Refused: the number of columns as row bound; its ranges as relation 0's.
+pub fn enter_table(frame: &[u8], shape: &mut [u8], ends: &mut [i32], r: u8)
+    ensures { λ _. ⌜ TableEntered (now (frame .entry)) r (now (shape .entry)) (now (ends .entry)) (now (shape .exit)) (now (ends .exit)) ⌝ }
+{
+    let width = byte_at(frame, 2);
+    put_columns(frame, ends, r, width);
+    put_shape(shape, r, TABLE, width, byte_at(frame, 1), byte_at(frame, 3));
+}
+
+// A view as relation r, whose ranges are already stored.
+// Refused: a table; the number of columns as row bound.
+pub fn enter_view(shape: &mut [u8], r: u8, width: u8, bound: u8)
+    ensures { λ _. ⌜ now (shape .exit) ≡ putShape (now (shape .entry)) r 2 width bound 0 ⌝ }
+{
+    put_shape(shape, r, VIEW, width, bound, 0);
+}
+
+// The first columns of relation r: the hulls of left's and right's.
+fn put_hulls(shape: &[u8], ends: &mut [i32], left: u8, right: u8, r: u8, width: u8)
+    ensures { λ _. ⌜ HullsPut left right r width (now (shape .entry)) (now (ends .entry)) (now (ends .exit)) ⌝ }
+{
+    let mut c: u8 = 0;
+    while c < width {
+        let hull = range_at(shape, ends, left, c).hull(range_at(shape, ends, right, c));
+        put_range(ends, r, c, hull);
+        c += 1;
+    }
+}
+
+fn least(a: u8, b: u8) -> u8
+    ensures { λ n. ⌜ n ≡ min a b ⌝ }
+{
+    if a <= b { a } else { b }
+}
+
+// At most 255.
+fn sum_of(a: u8, b: u8) -> u8
+    ensures { λ n. ⌜ n ≡ min (a + b) 255 ⌝ }
+{
+    if a <= 255 - b { a + b } else { 255 }
+}
+
+// A union as relation r: the columns of the narrower, for the fault of unequal widths is found elsewhere.
+// Refused: the left's row bound twice; the left's ranges.
+pub fn enter_union(left: u8, right: u8, shape: &mut [u8], ends: &mut [i32], r: u8)
+    ensures { λ _. ⌜ SetEntered View.union left right r (now (shape .entry)) (now (ends .entry)) (now (shape .exit)) (now (ends .exit)) ⌝ }
+{
+    let width = least(width_of(shape, left), width_of(shape, right));
+    let bound = sum_of(bound_of(shape, left), bound_of(shape, right));
+    put_hulls(shape, ends, left, right, r, width);
+    enter_view(shape, r, width, bound);
+}
+
+// An intersection as relation r. The hull of a range with itself is that range.
+// Refused: the left's row bound; the right's ranges.
+pub fn enter_intersection(left: u8, right: u8, shape: &mut [u8], ends: &mut [i32], r: u8)
+    ensures { λ _. ⌜ SetEntered View.intersection left right r (now (shape .entry)) (now (ends .entry)) (now (shape .exit)) (now (ends .exit)) ⌝ }
+{
+    let width = width_of(shape, left);
+    let bound = least(bound_of(shape, left), bound_of(shape, right));
+    put_hulls(shape, ends, left, left, r, width);
+    enter_view(shape, r, width, bound);
+}
+
+// The product, or TOO_MANY where it is larger.
+fn capped(n: u64, m: u32) -> u64
+    requires { ⌜ n ≤ tooMany ⌝ }
+    ensures { λ p. ⌜ p ≡ min (n * m) tooMany ⌝ }
+{
+    let p = n * (m as u64);
+    if p <= TOO_MANY { p } else { TOO_MANY }
+}
+
+// n times the sizes of some columns.
+fn times_row(packed: &[u8], start: usize, columns: u8, n: u64) -> u64
+    requires { ⌜ (start ≤ 66000) × (n ≤ tooMany) ⌝ }
+    ensures { λ p. ⌜ (p ≡ cappedProduct n (columnsFrom (now (packed .entry)) start columns)) × (p ≤ tooMany) ⌝ }
+{
+    let mut p = n;
+    let mut at = start;
+    let mut left = columns;
+    while 0 < left {
+        p = capped(p, domain_at(packed, at).size());
+        at += 4;
+        left -= 1;
+    }
+    p
+}
+
+// n times the sizes of a table's cells.
+fn times_table(packed: &[u8], at: usize, n: u64) -> u64
+    requires { ⌜ (at ≤ 65280) × (n ≤ tooMany) ⌝ }
+    ensures { λ p. ⌜ (p ≡ cappedProduct n (tableCells (now (packed .entry)) at)) × (p ≤ tooMany) ⌝ }
+{
+    let columns = byte_at(packed, at + 3);
+    let mut left = byte_at(packed, at + 2);
+    let mut p = n;
+    while 0 < left {
+        p = times_row(packed, at + 5, columns, p);
+        left -= 1;
+    }
+    p
+}
+
+// The number of candidates of a file's tables, whose frames come first, each behind its length; 2^24 + 1 stands for any larger number.
+// Refused: 0 with no cells; a frame's length taken one too small.
+pub fn candidates_of(packed: &[u8], tables: u8) -> u64
+    ensures { λ n. ⌜ Counted (now (packed .entry)) tables n ⌝ }
+{
+    let mut p: u64 = 1;
+    let mut at: usize = 0;
+    let mut left = tables;
+    while 0 < left {
+        p = times_table(packed, at, p);
+        at += (byte_at(packed, at) as usize) + 1;
+        left -= 1;
+    }
+    p
+}
