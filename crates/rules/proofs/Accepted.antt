@@ -83,16 +83,16 @@ accepted-wellFormed fs F a =
 
 -- ---- of bytes
 
-abbrev LegalDraft : Draft → Type 0
+abbrev pub LegalDraft : Draft → Type 0
 LegalDraft d = Kept LegalTable LegalKey LegalView d
 
-lawful-obeys : (d : Draft) (i : Item) → Lawful d i → Obeys LegalTable LegalKey LegalView d i
+pub lawful-obeys : (d : Draft) (i : Item) → Lawful d i → Obeys LegalTable LegalKey LegalView d i
 lawful-obeys d (Item.table x) h = h
 lawful-obeys d (Item.key x) h = h
 lawful-obeys d (Item.view x) h = h
 lawful-obeys d (Item.goal x) h = h
 
-legal-file : (d : Draft) (g : Goal) → LegalDraft d → d .goal ≡ some g → candidates (fileAt d g) ≤ candidateLimit → Legal (fileAt d g)
+pub legal-file : (d : Draft) (g : Goal) → LegalDraft d → d .goal ≡ some g → candidates (fileAt d g) ≤ candidateLimit → Legal (fileAt d g)
 legal-file d g k e n =
     record {
       relationCount = k .relations;
@@ -114,30 +114,30 @@ accepted-legal fs F all a =
 
 -- ---- the frames of a draft
 
-abbrev goalFrames : Option Goal → List (List ℕ)
+abbrev pub goalFrames : Option Goal → List (List ℕ)
 goalFrames none = []
 goalFrames (some g) = goalBytes g ∷ []
 
-abbrev framesOf : Draft → List (List ℕ)
-framesOf d = map tableBytes (d .tables) ++ map keyBytes (d .keys) ++ map viewBytes (d .views) ++ goalFrames (d .goal)
+abbrev pub draftFrames : Draft → List (List ℕ)
+draftFrames d = map tableBytes (d .tables) ++ map keyBytes (d .keys) ++ map viewBytes (d .views) ++ goalFrames (d .goal)
 
 -- a frame in its turn stands last
-frames-added : (d : Draft) (i : Item) → Turn d i → framesOf (added d i) ≡ framesOf d ++ (itemBytes i ∷ [])
+pub frames-added : (d : Draft) (i : Item) → Turn d i → draftFrames (added d i) ≡ draftFrames d ++ (itemBytes i ∷ [])
 frames-added d (Item.table t) u = rw (u .keys, u .views, u .goal) (simp (map-append, append-nil))
 frames-added d (Item.key k) u = rw (u .views, u .goal) (simp (map-append, append-nil, append-assoc))
 frames-added d (Item.view q) u = rw (u .goal) (simp (map-append, append-nil, append-assoc))
 frames-added d (Item.goal g) u = rw u (simp (append-nil))
 
-frames-ended : (d : Draft) (F : File) → Ended d F → framesOf d ++ [] ≡ fileFrames F
+frames-ended : (d : Draft) (F : File) → Ended d F → draftFrames d ++ [] ≡ fileFrames F
 unfolding fileFrames
-frames-ended d F n = append-nil (framesOf d) ∙ rw (n .named) (ap fileFrames (n .file))
+frames-ended d F n = append-nil (draftFrames d) ∙ rw (n .named) (ap fileFrames (n .file))
 
-written : (fs : List (List ℕ)) (d : Draft) (l : ℕ) (F : File) → All (All Byte) fs → checkFrames fs d l ≡ Outcome.accepted F → framesOf d ++ fs ≡ fileFrames F
+written : (fs : List (List ℕ)) (d : Draft) (l : ℕ) (F : File) → All (All Byte) fs → checkFrames fs d l ≡ Outcome.accepted F → draftFrames d ++ fs ≡ fileFrames F
 written [] d l F all a = frames-ended d F (finished-file d F (sym (none-left d l) ∙ a))
 written (f ∷ fs) d l F (All.cons b bs) a =
     let (i, t, more) = first-taken f fs d l F a in
     let e = step-bytes d f i b t .0 in
-    ap (λ (g : List ℕ). framesOf d ++ (g ∷ fs)) e ∙ sym (append-assoc (framesOf d) (itemBytes i ∷ []) fs)
+    ap (λ (g : List ℕ). draftFrames d ++ (g ∷ fs)) e ∙ sym (append-assoc (draftFrames d) (itemBytes i ∷ []) fs)
     ∙ ap (λ (gs : List (List ℕ)). gs ++ fs) (sym (frames-added d i (t .turn))) ∙ written fs (added d i) (suc l) F bs more
 
 pub accepted-written : (fs : List (List ℕ)) (F : File) → All (All Byte) fs → checkAll fs ≡ Outcome.accepted F → fs ≡ fileFrames F

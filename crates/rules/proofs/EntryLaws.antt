@@ -5,14 +5,14 @@ use mathlib.Core.List.{List, [], _∷_, _++_, map}
 use Prim.Native.Nat.{ℕ, _+_, _*_, _≤_, _<_}
 use native.Mathlib.Omega.{arith}
 use lib.IntN.{ℤ}
-use lib.ListN.{length, getD, length-append, length-map, List·getD-append, List·getD-eq-default}
+use lib.ListN.{length, getD, length-append, List·getD-append, List·getD-eq-default}
 use lib.Seq.{getD-append-seam}
 use lib.Dec.{eqb}
 use borrow.Author.Tests.{eqb-true, eqb-false}
 use Rattle.value.proofs.Decides.{by-test}
 use Rattle.meaning.specs.Syntax.{Table, View, ForeignKey, Goal}
 use Rattle.meaning.specs.Bounds.{Schema, noSchema, schema, tableSchema, viewSchema}
-use Rattle.meaning.proofs.Stacks.{by-lt, stack-append, length-stack}
+use Rattle.meaning.proofs.Stacks.{by-lt, stack-append}
 use Rattle.bounds.specs.Catalog.{widthAt, boundAt, maskAt, rangesFrom, schemaIn}
 use Rattle.rules.specs.Draft.{Draft, Item, empty, added, relationCount, schemasOf}
 use Rattle.rules.specs.Frames.{noTable}
@@ -20,6 +20,7 @@ use Rattle.rules.specs.Written.{maskOf}
 use Rattle.rules.specs.Catalogued.{Catalogued}
 use Rattle.rules.specs.Entries.{putShape, Outside}
 use Rattle.rules.proofs.CatalogLaws.{outside-ranges, shape-length, shape-other, put-width, put-bound, put-mask}
+use Rattle.rules.proofs.Turns.{count-schemas}
 
 -- equal or not
 by-eq {ℓ} : (m n : ℕ) {P : Type ℓ} → (m ≡ n → P) → ((m ≡ n → ⊥) → P) → P
@@ -38,7 +39,7 @@ pub table-schemas : (d : Draft) (t : Table) → d .views ≡ [] → schemasOf (a
 table-schemas d t e = rw e (map-snoc tableSchema (d .tables) t)
 
 pub length-schemas : (d : Draft) → length (schemasOf d) ≡ relationCount d
-length-schemas d = length-stack viewSchema (d .views) (map tableSchema (d .tables)) ∙ ap (λ n. n + length (d .views)) (length-map (d .tables) tableSchema)
+length-schemas d = count-schemas d
 
 -- ---- one relation more in the arrays
 

@@ -3,20 +3,21 @@
 use mathlib.Core.Path.{_≡_, refl, sym, ap, subst, _∙_}
 use mathlib.Core.Bool.{Bool, true, false, cond}
 use mathlib.Core.List.{List, [], _∷_, _++_, map}
-use Prim.Native.Nat.{ℕ, zero, suc, _/_, _^_, _<_}
+use Prim.Native.Nat.{ℕ, zero, suc, _^_, _<_}
 use native.Mathlib.Omega.{arith}
 use lib.Dec.{ltb, eqb}
 use lib.ListN.{length, getD, List·getD-append}
 use borrow.Author.Tests.{ltb-true, ltb-false}
 use Rattle.value.proofs.Decides.{by-test}
-use Rattle.meaning.specs.Syntax.{Table, View}
+use Rattle.meaning.specs.Syntax.{View}
 use Rattle.meaning.specs.Reading.{Read, Reader, _>>=_, either, byteIf, readE, readC}
 use Rattle.meaning.proofs.Readers.{then-ok}
 use Rattle.meaning.proofs.Stacks.{length-snoc}
 use Rattle.rules.specs.Draft.{Draft, Item, empty, added, isTable, isView, width, inOrder, hasRoom}
-use Rattle.rules.specs.Frames.{times, field, ending, maskBits, columnField, pairField, placeField, fromList, tableFrame, keyFrame, basicFrame, groupedFrame, setFrame, goalFrame, frame, wholeFault, noTable}
+use Rattle.rules.specs.Frames.{times, field, ending, columnField, pairField, placeField, fromList, tableFrame, keyFrame, basicFrame, groupedFrame, setFrame, goalFrame, frame, wholeFault, noTable}
 use Rattle.rules.specs.Check.{Checked, readChecked, checkFrame}
 use Rattle.rules.specs.Layout.{KeysFit}
+use Rattle.rules.proofs.MaskLaws.{length-maskBits}
 
 -- ---- what a reader reads has a property
 
@@ -55,10 +56,6 @@ yields-times r (suc n) =
 
 -- ---- frames
 
-length-mask : (n m : ℕ) → length (maskBits n m) ≡ n
-length-mask zero m = refl
-length-mask (suc n) m = ap suc (length-mask n (m / 2))
-
 abbrev ItemFits : Item → Type 0
 ItemFits (Item.table t) = length (t .key) ≡ length (t .columns)
 ItemFits (Item.key k) = Unit {0}
@@ -67,7 +64,7 @@ ItemFits (Item.goal g) = Unit {0}
 
 table-fits : Yields ItemFits tableFrame
 table-fits = yields-after (field 0 8) (λ r. yields-after (field 1 4) (λ n. yields-after (byteIf 5 (λ m. ltb m (2 ^ n))) (λ m.
-    yields-bind (yields-times columnField n) (λ cs h. yields-ending _ (length-mask n m ∙ sym h)))))
+    yields-bind (yields-times columnField n) (λ cs h. yields-ending _ (length-maskBits n m ∙ sym h)))))
 
 module _ (d : Draft) where
   key-fits : Yields ItemFits (keyFrame d)

@@ -29,3 +29,14 @@ pub mod EntryLaws
 pub mod SetLaws
 pub mod TableLaws
 pub mod CandidateLaws
+-- the bytes of views
+pub mod ViewByteLaws
+pub mod ViewFrameLaws
+-- the rules on views
+pub mod ViewRuleLaws
+-- one frame
+pub mod StandingLaws
+pub mod StepLaws
+pub mod KindLaws
+pub mod WalkLaws
+pub mod PlanLaws

@@ -80,7 +80,7 @@ module _ (d : Draft) where
       (four-tests (sameWidth ss q) (aggregatesFit ss q) (bounded ss q) (rangesFit ss q))
   whole-cases (Item.goal g) = inl tt
 
-  whole-zero : (i : Item) → Whole i → wholeFault d i ≡ 0
+  pub whole-zero : (i : Item) → Whole i → wholeFault d i ≡ 0
   whole-zero (Item.table t) h = refl
   whole-zero (Item.key k) h = rw h
   whole-zero (Item.view q) h = rw (h .width, h .aggregates, h .bound, h .ranges)

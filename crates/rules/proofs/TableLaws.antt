@@ -2,14 +2,14 @@
 use mathlib.Core.Path.{_≡_, sym, ap, ap₂, _∙_}
 use mathlib.Core.Bool.{Bool, true, _&&_}
 use mathlib.Core.List.{List, [], _∷_, map}
-use Prim.Native.Nat.{ℕ, zero, suc, _+_, _*_, _/_, _%_, _^_, _≤_, _<_}
+use Prim.Native.Nat.{ℕ, zero, suc, _+_, _*_, _^_, _≤_, _<_}
 use native.Mathlib.Omega.{arith}
-use lib.Dec.{eqb, ltb, leb}
+use lib.Dec.{ltb, leb}
 use lib.IntN.{ℤ}
 use lib.ListN.{length, getD, drop, length-map}
 use lib.Seq.{getD-drop, drop-drop}
 use lib.Signed.{leZ}
-use borrow.Author.Tests.{eqb-true, eqb-false, ltb-true, leb-true}
+use borrow.Author.Tests.{ltb-true, leb-true}
 use Rattle.value.specs.Integer.{bytesZ}
 use Rattle.value.specs.Value.{Column}
 use Rattle.value.proofs.Decides.{by-test, and-parts}
@@ -25,20 +25,11 @@ use Rattle.rules.specs.Written.{maskOf}
 use Rattle.rules.specs.Entries.{putShape, putRanges, columnFrom, columnIn, TableEntered}
 use Rattle.rules.proofs.CatalogLaws.{none, puts-outside, puts-ranges}
 use Rattle.rules.proofs.EntryLaws.{table-entered}
-
--- ---- the mask
-
-pub mask-back : (n m : ℕ) → m < 2 ^ n → maskOf (maskBits n m) ≡ m
-mask-back zero m h = omega arith
-mask-back (suc n) m h =
-    let b : maskOf (maskBits n (m / 2)) ≡ m / 2 = mask-back n (m / 2) (omega arith) in
-    by-test (eqb (m % 2) 1)
-    (λ e. rw (e, b) (omega (arith, eqb-true (m % 2) 1 e)))
-    (λ e. let z : m % 2 ≡ 0 = omega (arith, eqb-false (m % 2) 1 e) in rw (e, b) (omega arith))
+use Rattle.rules.proofs.MaskLaws.{mask-back}
 
 -- ---- a byte that was read
 
-byte-read : {B : Type 0} (n : ℕ) (p : ℕ → Bool) (bs : List ℕ) (k : ℕ → Reader B) {x : B} {rest : List ℕ} → (byteIf n p >>= k) bs ≡ Read.ok x rest
+pub byte-read : {B : Type 0} (n : ℕ) (p : ℕ → Bool) (bs : List ℕ) (k : ℕ → Reader B) {x : B} {rest : List ℕ} → (byteIf n p >>= k) bs ≡ Read.ok x rest
     → (p (getD bs 0 0) ≡ true) × (k (getD bs 0 0) (drop 1 bs) ≡ Read.ok x rest)
 byte-read n p [] k {x} {rest} e = let z : _≡_ {A = ℕ} 0 1 = cc in absurd (omega arith)
 byte-read n p (b ∷ bs) k {x} {rest} e = by-test (p b)
@@ -106,7 +97,7 @@ pub record TableRead (frame : List ℕ) (t : Table) : Type 0 where
   pub mask : maskOf (t .key) ≡ getD frame 3 0
   pub column : (c : ℕ) → c < getD frame 2 0 → columnIn frame c ≡ getD (map rangeOf (t .columns)) c none
 
-ending-read : {A : Type 0} (x y : A) (bs : List ℕ) → ending x bs ≡ Read.ok y [] → x ≡ y
+pub ending-read : {A : Type 0} (x y : A) (bs : List ℕ) → ending x bs ≡ Read.ok y [] → x ≡ y
 ending-read x y [] e = cc
 ending-read x y (b ∷ bs) e = let z : _≡_ {A = ℕ} 0 1 = cc in absurd (omega arith)
 

@@ -11,3 +11,7 @@ pub mod Catalogued
 pub mod Layout
 pub mod Entries
 pub mod Packed
+pub mod ViewFaults
+pub mod ViewRules
+pub mod Standing
+pub mod Plans

@@ -2,3 +2,8 @@
 pub mod catalog;
 pub mod fields;
 pub mod fixed;
+pub mod plan;
+pub mod state;
+pub mod step;
+pub mod view_bytes;
+pub mod view_rules;

@@ -1,0 +1,13 @@
+-- `rules::state::with_key` meets its contract. Assumes nothing.
+use borrow.Author.Needs.{needs}
+use Rattle.rules.proofs.state.with_key.Statement.{statement}
+use Rattle.rules.proofs.state.with_key.Tie as tie
+
+one-more-requires : tie.Need-one-more-requires
+one-more-requires c κs = search needs
+
+returns : tie.Need-returns
+returns c = cc
+
+pub with-key-spec : {M : Type 1} → statement M
+with-key-spec = tie.close (tie.spec one-more-requires returns)

@@ -1,0 +1,13 @@
+-- `rules::state::with_view` meets its contract. Assumes nothing.
+use borrow.Author.Needs.{needs}
+use Rattle.rules.proofs.state.with_view.Statement.{statement}
+use Rattle.rules.proofs.state.with_view.Tie as tie
+
+one-more-requires : tie.Need-one-more-requires
+one-more-requires c κs = search needs
+
+returns : tie.Need-returns
+returns c = cc
+
+pub with-view-spec : {M : Type 1} → statement M
+with-view-spec = tie.close (tie.spec one-more-requires returns)

@@ -1,0 +1,12 @@
+-- The laws, lowest first.
+-- combinations and groups by number
+pub mod NumberLaws
+pub mod Groups
+pub mod Picks
+-- evaluators, token by token
+pub mod Parts
+pub mod Means
+pub mod Gathered
+-- what callers use
+pub mod Columns
+pub mod Uses

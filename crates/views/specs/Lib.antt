@@ -1,0 +1,4 @@
+-- What a reader must believe of the evaluators.
+pub mod Numbers
+pub mod Scopes
+pub mod Evaluated

@@ -1,0 +1,3 @@
+// The rows of views, worked out on frame bytes.
+pub mod combination;
+pub mod evaluation;
