@@ -1,0 +1,2 @@
+-- The laws of the exported functions.
+pub mod AnswerLaws
