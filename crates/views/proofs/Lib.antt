@@ -10,3 +10,5 @@ pub mod Gathered
 -- what callers use
 pub mod Columns
 pub mod Uses
+-- rows written behind others
+pub mod Copying

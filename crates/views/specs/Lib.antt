@@ -2,3 +2,5 @@
 pub mod Numbers
 pub mod Scopes
 pub mod Evaluated
+-- rows written behind others
+pub mod Copies

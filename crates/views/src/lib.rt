@@ -1,3 +1,4 @@
 // The rows of views, worked out on frame bytes.
 pub mod combination;
 pub mod evaluation;
+pub mod sets;

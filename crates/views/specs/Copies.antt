@@ -1,0 +1,29 @@
+-- The rows of one relation written behind rows of another, and a union. Assumes nothing: these are definitions.
+use mathlib.Core.Path.{_≡_}
+use mathlib.Core.List.{List, _++_}
+use Prim.Native.Nat.{ℕ, _+_, _≤_, _<_}
+use lib.IntN.{ℤ}
+use lib.ListN.{length}
+use Rattle.store.specs.Layout.{relationLimit, rowLimit, columnLimit, area}
+use Rattle.store.specs.Rows.{rowsIn}
+
+-- only relation r changes
+pub record Apart (r : ℕ) (work work′ : List ℤ) : Type 0 where
+  pub size : length work′ ≡ length work
+  pub others : (i w n : ℕ) → (i ≡ r → ⊥) → rowsIn work′ i w n ≡ rowsIn work i w n
+
+-- the work area has room for n rows of width w of relation r
+pub record Fits (r n w : ℕ) (work : List ℤ) : Type 0 where
+  pub relation : r < relationLimit
+  pub rows : n ≤ rowLimit
+  pub columns : w ≤ columnLimit
+  pub whole : area ≤ length work
+
+pub record Copied (work : List ℤ) (source count to at w : ℕ) (work′ : List ℤ) : Type 0 where
+  pub apart : Apart to work work′
+  pub rows : (source ≡ to → ⊥) → Fits to (at + count) w work → rowsIn work′ to w (at + count) ≡ rowsIn work to w at ++ rowsIn work source w count
+
+-- "Union: left rows first"
+pub record Joined (work : List ℤ) (left m right n to w : ℕ) (work′ : List ℤ) : Type 0 where
+  pub apart : Apart to work work′
+  pub rows : (left ≡ to → ⊥) → (right ≡ to → ⊥) → Fits to (m + n) w work → rowsIn work′ to w (m + n) ≡ rowsIn work left w m ++ rowsIn work right w n
