@@ -33,6 +33,7 @@ pub mod CandidateLaws
 pub mod ViewByteLaws
 pub mod ViewFrameLaws
 -- the rules on views
+pub mod ViewFields
 pub mod ViewRuleLaws
 -- one frame
 pub mod StandingLaws

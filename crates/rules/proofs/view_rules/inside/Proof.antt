@@ -1,7 +1,7 @@
 -- `rules::view_rules::inside` meets its contract. Assumes nothing.
 use native.Mathlib.Omega.{arith}
 use borrow.Author.Needs.{needs}
-use Rattle.rules.proofs.ViewRuleLaws.{drop-past}
+use Rattle.rules.proofs.ViewFields.{drop-past}
 use Rattle.rules.proofs.view_rules.inside.Statement.{statement}
 use Rattle.rules.proofs.view_rules.inside.Tie as tie
 
