@@ -31,13 +31,13 @@ row-whole row work r w c i h k p = let e : w ≡ c = omega arith in rw e p
 
 -- ---- several rows
 
-apart-same : (r : ℕ) (work : List ℤ) → Apart r work work
+pub apart-same : (r : ℕ) (work : List ℤ) → Apart r work work
 apart-same r work = record { size = refl; others = λ i w n h. refl }
 
-apart-more : {r : ℕ} {a b c : List ℤ} → Apart r a b → Apart r b c → Apart r a c
+pub apart-more : {r : ℕ} {a b c : List ℤ} → Apart r a b → Apart r b c → Apart r a c
 apart-more p q = record { size = q .size ∙ p .size; others = λ i w n h. q .others i w n h ∙ p .others i w n h }
 
-apart-put : (work : List ℤ) (r i w : ℕ) (row : Row) → Apart r work (putRow work r i w row)
+pub apart-put : (work : List ℤ) (r i w : ℕ) (row : Row) → Apart r work (putRow work r i w row)
 apart-put work r i w row = record { size = put-length work r i w row; others = λ j v n h. put-other work r i w row j v n h }
 
 pub copied-none : (work : List ℤ) (source to at w : ℕ) → Copied work source 0 to at w work
@@ -48,7 +48,7 @@ copied-none work source to at w = record {
 }
 
 -- the row that is read is still the source's
-row-kept : (work work′ : List ℤ) (source to w i : ℕ) → Apart to work work′ → (source ≡ to → ⊥) → rowIn work′ source w i ≡ rowIn work source w i
+pub row-kept : (work work′ : List ℤ) (source to w i : ℕ) → Apart to work work′ → (source ≡ to → ⊥) → rowIn work′ source w i ≡ rowIn work source w i
 row-kept work work′ source to w i a d =
     sym (row-of-rows work′ source w (suc i) i (omega arith)) ∙ ap (λ (l : List Row). getD l i []) (a .others source w (suc i) d) ∙ row-of-rows work source w (suc i) i (omega arith)
 

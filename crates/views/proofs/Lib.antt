@@ -12,3 +12,4 @@ pub mod Columns
 pub mod Uses
 -- rows written behind others
 pub mod Copying
+pub mod Intersecting

@@ -2,10 +2,12 @@
 use store;
 use store::Row;
 ghost use mathlib.Core.Path.{_≡_};
-ghost use Prim.Native.Nat.{_≤_};
+ghost use Prim.Native.Nat.{_≤_, _<_};
+ghost use Rattle.value.specs.Bag.{tick, count};
+ghost use Rattle.meaning.specs.Evaluation.{rowTest};
 ghost use Rattle.store.specs.Layout.{columnLimit};
-ghost use Rattle.store.specs.Rows.{rowIn, rowOf};
-ghost use Rattle.views.specs.Copies.{Copied, Joined};
+ghost use Rattle.store.specs.Rows.{rowIn, rowsIn, rowOf};
+ghost use Rattle.views.specs.Copies.{Copied, Joined, Appended, Shared};
 
 // A row of a relation by value.
 fn row_at(work: &[i32], relation: u8, i: u8, width: u8) -> Row
@@ -41,4 +43,74 @@ pub fn union(work: &mut [i32], left: u8, m: u8, right: u8, n: u8, to: u8, width:
 {
     copy(work, left, m, to, 0, width);
     copy(work, right, n, to, m, width);
+}
+
+// Whether two rows are the same.
+fn same_rows(work: &[i32], a: u8, i: u8, b: u8, j: u8, width: u8) -> bool
+    ensures { λ r. ⌜ r ≡ rowTest .same (rowIn (now (work .entry)) a width i) (rowIn (now (work .entry)) b width j) ⌝ }
+{
+    let mut c: u8 = 0;
+    while c < width {
+        let x = store::cell(work, a as usize, i as usize, c as usize);
+        let y = store::cell(work, b as usize, j as usize, c as usize);
+        if !x.same(y) {
+            return false;
+        }
+        c += 1;
+    }
+    true
+}
+
+// 1 for a row that is the same, else 0.
+fn one_if_same(work: &[i32], a: u8, i: u8, b: u8, j: u8, width: u8) -> u8
+    ensures { λ k. ⌜ (k ≡ tick (rowTest .same (rowIn (now (work .entry)) a width i) (rowIn (now (work .entry)) b width j)) 0) × (k ≤ 1) ⌝ }
+{
+    if same_rows(work, a, i, b, j, width) {
+        1
+    } else {
+        0
+    }
+}
+
+// How often a row is among the first n rows of a relation.
+fn count_of(work: &[i32], a: u8, i: u8, b: u8, n: u8, width: u8) -> u8
+    ensures { λ k. ⌜ k ≡ count rowTest (rowIn (now (work .entry)) a width i) (rowsIn (now (work .entry)) b width n) ⌝ }
+{
+    let mut k: u8 = 0;
+    let mut j: u8 = 0;
+    while j < n {
+        let one = one_if_same(work, a, i, b, j, width);
+        k = k + one;
+        j += 1;
+    }
+    k
+}
+
+// Row i of a relation behind `at` rows of another, if it is kept; and the number of rows then.
+fn append(work: &mut [i32], keep: bool, source: u8, i: u8, to: u8, at: u8, width: u8) -> u8
+    requires { ⌜ at < 255 ⌝ }
+    ensures { λ r. ⌜ Appended keep (now (work .entry)) source i to at width r (now (work .exit)) ⌝ }
+{
+    if keep {
+        let row = row_at(work, source, i, width);
+        store::put(work, to as usize, at as usize, width as usize, row);
+        return at + 1;
+    }
+    at
+}
+
+// The earliest of m rows of the left, each as often as in both, and their number.
+// Refused: each row that the right has; a row once more than the right has it.
+pub fn intersection(work: &mut [i32], left: u8, m: u8, right: u8, n: u8, to: u8, width: u8) -> u8
+    ensures { λ kept. ⌜ Shared (now (work .entry)) left m right n to width kept (now (work .exit)) ⌝ }
+{
+    let mut kept: u8 = 0;
+    let mut i: u8 = 0;
+    while i < m {
+        let before = count_of(work, left, i, left, i, width);
+        let there = count_of(work, left, i, right, n, width);
+        kept = append(work, before < there, left, i, to, kept, width);
+        i += 1;
+    }
+    kept
 }

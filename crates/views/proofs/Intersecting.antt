@@ -1,0 +1,170 @@
+-- Rows compared, counted and kept. Assumes nothing.
+use mathlib.Core.Path.{_≡_, refl, sym, ap, ap₂, _∙_}
+use mathlib.Core.Bool.{Bool, true, false, _&&_, not, cond}
+use mathlib.Core.List.{List, [], _∷_, _++_, append-nil}
+use Prim.Native.Nat.{ℕ, zero, suc, _+_, _≤_, _<_}
+use native.Mathlib.Omega.{arith}
+use lib.Dec.{ltb, eqb}
+use lib.IntN.{ℤ}
+use lib.ListN.{length}
+use borrow.Author.Tests.{eqb-true, eqb-false}
+use Rattle.value.specs.Bag.{tick, count}
+use Rattle.value.specs.Value.{Value, valueTest}
+use Rattle.value.proofs.Decides.{by-test}
+use Rattle.meaning.specs.Lists.{each, common}
+use Rattle.meaning.specs.Syntax.{Row}
+use Rattle.meaning.specs.Evaluation.{rowTest}
+use Rattle.meaning.proofs.ListBags.{count-append}
+use Rattle.meaning.proofs.ListSteps.{common-snoc}
+use Rattle.store.specs.Layout.{columnLimit, cellIn}
+use Rattle.store.specs.Rows.{listed, rowIn, rowsIn, putRow, rowOf}
+use Rattle.store.specs.declared.Row.{Row as Values}
+use Rattle.store.proofs.Listed.{length-listed}
+use Rattle.store.proofs.RowLaws.{rows-none, rows-more, row-of-length, put-grows}
+use Rattle.views.specs.Copies.{Fits, Appended, Shared}
+use Rattle.views.proofs.Copying.{apart-same, apart-more, apart-put, row-kept}
+
+-- ---- rows that are the same
+
+pub not-true : (t : Bool) → not t ≡ true → t ≡ false
+not-true true e = sym e
+not-true false e = refl
+
+pub not-false : (t : Bool) → not t ≡ false → t ≡ true
+not-false true e = refl
+not-false false e = sym e
+
+and-false : (t : Bool) → (t && false) ≡ false
+and-false true = refl
+and-false false = refl
+
+each-snoc : {A : Type 0} (same : A → A → Bool) (f g : ℕ → A) (n : ℕ)
+    → each same (listed f (suc n)) (listed g (suc n)) ≡ (each same (listed f n) (listed g n) && same (f n) (g n))
+unfolding listed
+each-snoc {A} same f g n = go n (f n) (g n)
+  where
+    both : (xs ys : List A) (x y : A) → length xs ≡ length ys → each same (xs ++ (x ∷ [])) (ys ++ (y ∷ [])) ≡ (each same xs ys && same x y)
+    both [] [] x y e = by-test (same x y) (λ t. rw t) (λ t. rw t)
+    both [] (b ∷ ys) x y e = absurd (omega arith)
+    both (a ∷ xs) [] x y e = absurd (omega arith)
+    both (a ∷ xs) (b ∷ ys) x y e = by-test (same a b) (λ t. rw t (both xs ys x y (omega arith))) (λ t. rw t)
+
+    go : (k : ℕ) (x y : A) → each same (listed f k ++ (x ∷ [])) (listed g k ++ (y ∷ [])) ≡ (each same (listed f k) (listed g k) && same x y)
+    go k x y = both (listed f k) (listed g k) x y (length-listed f k ∙ sym (length-listed g k))
+
+module _ (work : List ℤ) (a i b j : ℕ) where
+  abbrev alike : ℕ → Bool
+  alike w = rowTest .same (rowIn work a w i) (rowIn work b w j)
+
+  pub alike-none : alike 0 ≡ true
+  unfolding rowIn listed
+  alike-none = refl
+
+  alike-next : (c : ℕ) → alike (suc c) ≡ (alike c && valueTest .same (cellIn work a i c) (cellIn work b j c))
+  unfolding rowIn
+  alike-next c = each-snoc (valueTest .same) (cellIn work a i) (cellIn work b j) c
+
+  pub alike-more : (c : ℕ) (x y : Value) → alike c ≡ true → x ≡ cellIn work a i c → y ≡ cellIn work b j c → valueTest .same x y ≡ true → alike (c + 1) ≡ true
+  alike-more c x y p e f t =
+      let n : c + 1 ≡ suc c = omega arith in
+      ap alike n ∙ alike-next c ∙ rw (p, ← e, ← f, t)
+
+  pub alike-stops : (w c : ℕ) (x y : Value) → c < w → x ≡ cellIn work a i c → y ≡ cellIn work b j c → valueTest .same x y ≡ false → false ≡ alike w
+  alike-stops zero c x y h e f t = absurd (omega arith)
+  alike-stops (suc w) c x y h e f t = by-test (eqb c w)
+      (λ q. let z : c ≡ w = eqb-true c w q in
+      sym (alike-next w ∙ ap (λ k. alike w && valueTest .same (cellIn work a i k) (cellIn work b j k)) (sym z) ∙ ap₂ (λ u v. alike w && valueTest .same u v) (sym e) (sym f)
+      ∙ ap (λ k. alike w && k) t ∙ and-false (alike w)))
+      (λ q. let z = alike-stops w c x y (omega (arith, eqb-false c w q)) e f t in sym (alike-next w ∙ rw (← z)))
+
+  pub alike-whole : (w c : ℕ) → c ≤ w → w ≤ c → alike c ≡ true → true ≡ alike w
+  alike-whole w c h k p = let e : w ≡ c = omega arith in rw e (sym p)
+
+-- ---- how often
+
+pub one-yes : {t : Bool} → t ≡ true → (1 ≡ tick t 0) × (1 ≤ 1)
+one-yes e = (rw e, omega arith)
+
+pub one-no : {t : Bool} → t ≡ false → (0 ≡ tick t 0) × (0 ≤ 1)
+one-no e = (rw e, omega arith)
+
+pub count-whole : (work : List ℤ) (b w n j : ℕ) (r : Row) {k : ℕ} → j ≤ n → n ≤ j → k ≡ count rowTest r (rowsIn work b w j) → k ≡ count rowTest r (rowsIn work b w n)
+count-whole work b w n j r h g e = let q : j ≡ n = omega arith in e ∙ ap (λ x. count rowTest r (rowsIn work b w x)) q
+
+pub count-none : (work : List ℤ) (b w : ℕ) (r : Row) → 0 ≡ count rowTest r (rowsIn work b w 0)
+count-none work b w r = rw (rows-none work b w)
+
+pub count-more : (work : List ℤ) (b w n k one : ℕ) (r : Row) → k ≡ count rowTest r (rowsIn work b w n) → one ≡ tick (rowTest .same r (rowIn work b w n)) 0
+    → k + one ≡ count rowTest r (rowsIn work b w (n + 1))
+count-more work b w n k one r e f =
+    let s : n + 1 ≡ suc n = omega arith in
+    ap₂ (λ x y. x + y) e f ∙ sym (ap (λ l. count rowTest r l) (ap (rowsIn work b w) s ∙ rows-more work b w n) ∙ count-append (rowTest .same r) (rowsIn work b w n) (rowIn work b w n ∷ []))
+
+-- ---- kept rows
+
+pub appended : {keep : Bool} {work work′ : List ℤ} {source i to at w : ℕ} (row : Values) → keep ≡ true → (w ≤ columnLimit → rowOf row w ≡ rowIn work source w i)
+    → work′ ≡ putRow work to at w (rowOf row w) → Appended keep work source i to at w (at + 1) work′
+appended {keep} row k r p = record {
+  yes = λ _. (row, r, p, refl);
+  no = λ n. let both : true ≡ false = sym k ∙ n in let z : _≡_ {A = ℕ} 0 1 = cc in absurd (omega arith);
+}
+
+pub left-out : {keep : Bool} {work : List ℤ} {source i to at w : ℕ} → keep ≡ false → Appended keep work source i to at w at work
+left-out {keep} k = record {
+  yes = λ n. let both : false ≡ true = sym k ∙ n in let z : _≡_ {A = ℕ} 0 1 = cc in absurd (omega arith);
+  no = λ _. (refl, refl);
+}
+
+pub shared-none : (work : List ℤ) (left right n to w : ℕ) → Shared work left 0 right n to w 0 work
+shared-none work left right n to w =
+    record { apart = apart-same to work; few = omega arith; rows = λ p q f. rw (rows-none work to w, rows-none work left w) }
+
+module _ {work now : List ℤ} {left i right n to w kept before there : ℕ} (s : Shared work left i right n to w kept now)
+    (x : before ≡ count rowTest (rowIn now left w i) (rowsIn now left w i)) (y : there ≡ count rowTest (rowIn now left w i) (rowsIn now right w n)) where
+  -- the rows that are read are as they were
+  step-common : (left ≡ to → ⊥) → (right ≡ to → ⊥)
+      → common rowTest (rowsIn work left w (i + 1)) (rowsIn work right w n)
+      ≡ common rowTest (rowsIn work left w i) (rowsIn work right w n) ++ cond (ltb before there) (rowIn work left w i ∷ []) []
+  step-common p q =
+      let k : i + 1 ≡ suc i = omega arith in
+      let row = row-kept work now left to w i (s .apart) p in
+      let b : before ≡ count rowTest (rowIn work left w i) (rowsIn work left w i) = x ∙ ap₂ (count rowTest) row (s .apart .others left w i p) in
+      let t : there ≡ count rowTest (rowIn work left w i) (rowsIn work right w n) = y ∙ ap₂ (count rowTest) row (s .apart .others right w n q) in
+      ap (λ l. common rowTest l (rowsIn work right w n)) (ap (rowsIn work left w) k ∙ rows-more work left w i)
+      ∙ common-snoc rowTest (rowsIn work left w i) (rowIn work left w i) (rowsIn work right w n)
+      ∙ ap₂ (λ u v. common rowTest (rowsIn work left w i) (rowsIn work right w n) ++ cond (ltb u v) (rowIn work left w i ∷ []) []) (sym b) (sym t)
+
+  pub shared-more : {after : List ℤ} {next : ℕ} → Appended (ltb before there) now left i to kept w next after → Shared work left (i + 1) right n to w next after
+  shared-more {after} {next} a = by-test (ltb before there) taken passed
+    where
+      less : Fits to (i + 1) w work → Fits to i w work
+      less f = record { relation = f .relation; rows = omega (arith, f .rows); columns = f .columns; whole = f .whole }
+
+      taken : ltb before there ≡ true → Shared work left (i + 1) right n to w next after
+      taken t =
+          let (row, read, put, count-is) = a .yes t in
+          record {
+            apart = rw put (apart-more (s .apart) (apart-put now to kept w (rowOf row w)));
+            few = omega (arith, s .few, count-is);
+            rows = λ p q f.
+                let k : next ≡ suc kept = omega (arith, count-is) in
+                ap₂ (λ l j. rowsIn l to w j) put k
+                ∙ put-grows now to kept w (rowOf row w) (f .relation) (omega (arith, f .rows, s .few)) (f .columns) (omega (arith, f .whole, s .apart .size)) (row-of-length row w)
+                ∙ ap₂ (λ (u : List Row) (v : Row). u ++ (v ∷ [])) (s .rows p q (less f)) (read (f .columns) ∙ row-kept work now left to w i (s .apart) p)
+                ∙ sym (step-common p q ∙ ap (λ c. common rowTest (rowsIn work left w i) (rowsIn work right w n) ++ cond c (rowIn work left w i ∷ []) []) t);
+          }
+
+      passed : ltb before there ≡ false → Shared work left (i + 1) right n to w next after
+      passed t =
+          let (same, count-is) = a .no t in
+          record {
+            apart = rw same (s .apart);
+            few = omega (arith, s .few, count-is);
+            rows = λ p q f.
+                ap₂ (λ l j. rowsIn l to w j) same count-is ∙ s .rows p q (less f)
+                ∙ sym (step-common p q ∙ ap (λ c. common rowTest (rowsIn work left w i) (rowsIn work right w n) ++ cond c (rowIn work left w i ∷ []) []) t
+                ∙ append-nil (common rowTest (rowsIn work left w i) (rowsIn work right w n)));
+          }
+
+pub shared-all : {work work′ : List ℤ} {left i m right n to w kept : ℕ} → i ≡ m → Shared work left i right n to w kept work′ → Shared work left m right n to w kept work′
+shared-all e s = rw (sym e) s
