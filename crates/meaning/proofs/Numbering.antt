@@ -2,7 +2,7 @@
 -- in a row, and cut again, are the database. Assumes nothing.
 use mathlib.Core.Path.{_≡_, refl, sym, ap, _∙_, subst}
 use mathlib.Core.Bool.{true}
-use mathlib.Core.List.{List, [], _∷_, _++_, foldr, map, append-assoc}
+use mathlib.Core.List.{List, [], _∷_, _++_, map, append-assoc}
 use Prim.Native.Nat.{ℕ, zero, suc, _*_, _<_}
 use native.Mathlib.Nat.{suc-mul, zero-mul, add-comm}
 use native.Mathlib.Omega.{arith}
@@ -13,7 +13,7 @@ use Rattle.value.specs.Bag.{All}
 use Rattle.value.specs.Value.{Value, Column, Within}
 use Rattle.value.proofs.Decides.{and-parts}
 use Rattle.value.proofs.Linear.{leZ-true}
-use Rattle.meaning.specs.Lists.{Each, all, copies}
+use Rattle.meaning.specs.Lists.{Each, all, copies, joined}
 use Rattle.meaning.specs.Syntax.{Table, File, Row, Database}
 use Rattle.meaning.specs.Valid.{InRange}
 use Rattle.meaning.specs.Bounds.{ordered}
@@ -48,10 +48,6 @@ module _ {A B : Type 0} {P : A → B → Type 0} where
   each-split (x ∷ xs) (Each.cons p ps) = let h = each-split xs ps in (Each.cons p (h .0), h .1)
 
 -- ---- rows: cut and joined
-
--- lists one behind the other
-abbrev pub joined : {A : Type 0} → List (List A) → List A
-joined = foldr _++_ []
 
 -- the cells of a database in a row: tables, rows, columns
 abbrev pub flat : Database → List Value

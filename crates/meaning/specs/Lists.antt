@@ -111,6 +111,10 @@ abbrev pub stackAll : {A B : Type 0} → (List B → A → B) → (List B → A 
 stackAll f p [] bs = true
 stackAll f p (x ∷ xs) bs = p bs x && stackAll f p xs (bs ++ (f bs x ∷ []))
 
+-- lists one behind the other
+abbrev pub joined : {A : Type 0} → List (List A) → List A
+joined = foldr _++_ []
+
 -- n copies of a list, one behind the other
 abbrev pub copies : {A : Type 0} → ℕ → List A → List A
 copies zero xs = []

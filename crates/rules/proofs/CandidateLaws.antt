@@ -15,11 +15,11 @@ use Rattle.value.specs.Integer.{bytesZ, low16, high16, highByte, lowByte}
 use Rattle.value.specs.Value.{Column, size}
 use Rattle.value.proofs.Linear.{ints}
 use Rattle.value.proofs.TwosComplement.{bytes-back}
-use Rattle.meaning.specs.Lists.{copies}
+use Rattle.meaning.specs.Lists.{copies, joined}
 use Rattle.meaning.specs.Syntax.{Table}
 use Rattle.meaning.specs.Candidates.{product, cellColumns}
 use Rattle.meaning.proofs.Stacks.{by-lt}
-use Rattle.rules.specs.Written.{joined, columnBytes, tableBytes}
+use Rattle.rules.specs.Written.{columnBytes, tableBytes}
 use Rattle.rules.specs.Entries.{columnFrom}
 use Rattle.rules.specs.Packed.{tooMany, cappedProduct, columnsFrom, tableCells, cellsFrom, packedTables, Bits16, Counted}
 

@@ -15,6 +15,7 @@ use Rattle.value.specs.Value.{Column}
 use Rattle.value.proofs.Linear.{true-leZ, ints}
 use Rattle.value.proofs.TwosComplement.{bytes-back}
 use Rattle.value.proofs.Values.{all-map}
+use Rattle.meaning.specs.Lists.{joined}
 use Rattle.meaning.specs.Syntax.{Expr, Cond, Place, Pair, View, Table, ForeignKey, Goal}
 use Rattle.meaning.specs.Prefix.{encodeE, encodeC}
 use Rattle.meaning.specs.Reading.{Read, Reader, done, refuse, either, byteIf, readE, InLimitsE}
@@ -23,7 +24,7 @@ use Rattle.meaning.proofs.PrefixForms.{constant-fits, backE, backC}
 use Rattle.rules.specs.Draft.{Draft, Item, relationCount, isView, width, schemasOf}
 use Rattle.rules.specs.Frames.{times, maskBits, columnField, tableFrame, pairField, keyFrame, fromList, basicFrame, placeField, groupedFrame, setFrame, goalFrame}
 use Rattle.rules.specs.Legal.{Limits, LegalColumn, LegalTable, LegalPair, KeyFields, LegalFrom, LegalPlace, LegalBasic, LegalGrouped, NamesView, LegalSet, widths}
-use Rattle.rules.specs.Written.{joined, columnBytes, maskOf}
+use Rattle.rules.specs.Written.{columnBytes, maskOf}
 use Rattle.rules.proofs.MaskLaws.{mask-small, bits-back}
 use Rattle.rules.proofs.SoundFrames.{joined-ones, regroup, pairBytes, placeBytes}
 use Rattle.rules.proofs.Turns.{count-schemas, width-table}

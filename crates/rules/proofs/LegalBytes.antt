@@ -17,6 +17,7 @@ use Rattle.value.specs.Integer.{low16, high16, bitsOf, highByte, lowByte}
 use Rattle.value.specs.Value.{Column, Operation, Comparison, Connective, Aggregate}
 use Rattle.value.proofs.Linear.{ints}
 use Rattle.value.proofs.Values.{all-map}
+use Rattle.meaning.specs.Lists.{joined}
 use Rattle.meaning.specs.Syntax.{Expr, Cond, Place, Pair, View, Table, ForeignKey, Goal, File}
 use Rattle.meaning.specs.Prefix.{operationToken, comparisonToken, connectiveToken, aggregateByte, encodeE, encodeC}
 use Rattle.meaning.specs.Reading.{InLimitsE, InLimitsC}
@@ -26,7 +27,7 @@ use Rattle.meaning.proofs.PrefixForms.{constant-fits}
 use Rattle.meaning.proofs.Readers.{Byte}
 use Rattle.meaning.proofs.Stacks.{length-snoc}
 use Rattle.rules.specs.Legal.{LegalColumn, LegalTable, LegalPair, LegalKey, LegalFrom, LegalSelect, LegalPlace, NamesView, LegalView, ViewFields, EveryView, Legal, widths}
-use Rattle.rules.specs.Written.{joined, maskOf, columnBytes, tableBytes, keyBytes, viewBytes, goalBytes, fileFrames}
+use Rattle.rules.specs.Written.{maskOf, columnBytes, tableBytes, keyBytes, viewBytes, goalBytes, fileFrames}
 use Rattle.rules.proofs.MaskLaws.{mask-small}
 use Rattle.rules.proofs.SoundFrames.{pairBytes, placeBytes}
 

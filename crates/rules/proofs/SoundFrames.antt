@@ -13,6 +13,7 @@ use Rattle.value.specs.Integer.{bytesZ}
 use Rattle.value.proofs.Linear.{leZ-true}
 use Rattle.value.proofs.TwosComplement.{high-back, low-back}
 use Rattle.value.proofs.Values.{all-map}
+use Rattle.meaning.specs.Lists.{joined}
 use Rattle.meaning.specs.Syntax.{Place, Pair, View}
 use Rattle.meaning.specs.Prefix.{encodeE, encodeC}
 use Rattle.meaning.specs.Reading.{Read, Reader, readE, readC, InLimitsE, InLimitsC}
@@ -21,7 +22,7 @@ use Rattle.meaning.proofs.PrefixForms.{constant-limits, soundE, soundC}
 use Rattle.rules.specs.Draft.{Draft, Item, relationCount, isTable, isView, width, schemasOf, stageOf}
 use Rattle.rules.specs.Frames.{times, field, ending, columnField, tableFrame, pairField, keyFrame, fromList, basicFrame, placeField, groupedFrame, setFrame, goalFrame, frame}
 use Rattle.rules.specs.Legal.{Limits, LegalColumn, LegalTable, LegalPair, KeyFields, LegalFrom, LegalPlace, NamesView, LegalSet, ViewFields}
-use Rattle.rules.specs.Written.{joined, columnBytes, tableBytes, keyBytes, viewBytes, goalBytes}
+use Rattle.rules.specs.Written.{columnBytes, tableBytes, keyBytes, viewBytes, goalBytes}
 use Rattle.rules.proofs.FairReaders.{limits-test}
 use Rattle.rules.proofs.MaskLaws.{length-maskBits, mask-back}
 use Rattle.rules.proofs.Turns.{itemBytes, by-kind, count-schemas, width-table, names-view}

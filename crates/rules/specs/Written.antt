@@ -1,16 +1,13 @@
 -- A file written out: the frames of its tables, foreign keys, views and goal. Assumes nothing: these are definitions, and they compute.
 use mathlib.Core.Bool.{Bool, true, false, cond}
-use mathlib.Core.List.{List, [], _∷_, _++_, map, foldr}
+use mathlib.Core.List.{List, [], _∷_, _++_, map}
 use Prim.Native.Nat.{ℕ, _+_, _*_}
 use lib.ListN.{length}
 use Rattle.value.specs.Integer.{highByte, lowByte}
 use Rattle.value.specs.Value.{Column}
+use Rattle.meaning.specs.Lists.{joined}
 use Rattle.meaning.specs.Syntax.{Place, View, Table, Pair, ForeignKey, Goal, File}
 use Rattle.meaning.specs.Prefix.{encodeE, encodeC}
-
--- one list behind the other
-abbrev pub joined : List (List ℕ) → List ℕ
-joined = foldr _++_ []
 
 -- "bit i of value 2^i means column i is in the primary key"
 abbrev pub maskOf : List Bool → ℕ
