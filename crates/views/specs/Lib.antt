@@ -4,3 +4,6 @@ pub mod Scopes
 pub mod Evaluated
 -- rows written behind others
 pub mod Copies
+-- rows of basic and aggregate views
+pub mod Selection
+pub mod Grouping
