@@ -1,0 +1,4 @@
+-- What a reader must believe of the cases that the code finds.
+pub mod Given
+pub mod Validity
+pub mod Needs

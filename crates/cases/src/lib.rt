@@ -1,0 +1,4 @@
+// Whether a database that stands in the work area is a case of a checked file.
+pub mod needs;
+pub mod outline;
+pub mod validity;

@@ -1,0 +1,179 @@
+// Whether a database is valid: primary keys and foreign keys. Its values lie in their columns' ranges as a candidate's do.
+use super::outline::Outline;
+use rules::catalog;
+ghost use mathlib.Core.Path.{_≡_};
+ghost use Prim.Native.Nat.{_≤_};
+ghost use lib.ListN.{length};
+ghost use Rattle.cases.specs.Validity.{Differs, DiffersFromEarlier, KeyHeld, KeysHeld, Agreed, HasParent, ForeignHeld, ForeignsHeld, Validates};
+
+// Whether two rows of a table differ in some column of the key.
+fn differ(work: &[i32], table: u8, i: u8, j: u8, width: u8, mask: u8) -> bool
+    ensures { λ r. ⌜ Differs (now (work .entry)) table i j width mask r ⌝ }
+{
+    let mut left = mask;
+    let mut c: u8 = 0;
+    while c < width {
+        let x = store::cell(work, table as usize, i as usize, c as usize);
+        let y = store::cell(work, table as usize, j as usize, c as usize);
+        if left % 2 == 1 && !x.same(y) {
+            return true;
+        }
+        left = left / 2;
+        c += 1;
+    }
+    false
+}
+
+// Whether row j differs from each row before it.
+fn differs_from_earlier(work: &[i32], table: u8, j: u8, width: u8, mask: u8) -> bool
+    ensures { λ r. ⌜ DiffersFromEarlier (now (work .entry)) table j width mask r ⌝ }
+{
+    let mut i: u8 = 0;
+    while i < j {
+        if !differ(work, table, i, j, width, mask) {
+            return false;
+        }
+        i += 1;
+    }
+    true
+}
+
+// Whether each two rows of a table differ in some column of its key, if it has one.
+fn key_holds(work: &[i32], table: u8, rows: u8, width: u8, mask: u8) -> bool
+    ensures { λ r. ⌜ KeyHeld (now (work .entry)) table rows width mask r ⌝ }
+{
+    if mask == 0 {
+        return true;
+    }
+    let mut j: u8 = 0;
+    while j < rows {
+        if !differs_from_earlier(work, table, j, width, mask) {
+            return false;
+        }
+        j += 1;
+    }
+    true
+}
+
+// Whether the key of each table holds.
+// Refused: the first table's key for each; a key of the first column only.
+pub fn keys_hold(shape: &[u8], counts: &[u8], work: &[i32], tables: u8) -> bool
+    ensures { λ r. ⌜ KeysHeld (now (shape .entry)) (now (counts .entry)) (now (work .entry)) tables r ⌝ }
+{
+    let mut t: u8 = 0;
+    while t < tables {
+        let rows = prefix::byte_at(counts, t as usize);
+        let width = catalog::width_of(shape, t);
+        let mask = catalog::mask_of(shape, t);
+        if !key_holds(work, t, rows, width, mask) {
+            return false;
+        }
+        t += 1;
+    }
+    true
+}
+
+// Whether a parent row agrees with a child row on all `count` pairs of columns, which stand at `at`.
+fn agrees(
+    bytes: &[u8],
+    at: usize,
+    count: u8,
+    work: &[i32],
+    child: u8,
+    i: u8,
+    parent: u8,
+    j: u8,
+) -> bool
+    ensures { λ r. ⌜ Agreed (now (bytes .entry)) at count (now (work .entry)) child i parent j r ⌝ }
+{
+    let mut next = at;
+    let mut p: u8 = 0;
+    while p < count {
+        if bytes.len() <= next {
+            return false;
+        }
+        let a = prefix::byte_at(bytes, next) as usize;
+        let b = prefix::byte_at(bytes, next + 1) as usize;
+        let x = store::cell(work, child as usize, i as usize, a);
+        let y = store::cell(work, parent as usize, j as usize, b);
+        if !x.same(y) {
+            return false;
+        }
+        next = next + 2;
+        p += 1;
+    }
+    true
+}
+
+// Whether one of the parent's rows agrees with row i of the child.
+fn has_parent(
+    bytes: &[u8],
+    at: usize,
+    count: u8,
+    work: &[i32],
+    child: u8,
+    i: u8,
+    parent: u8,
+    rows: u8,
+) -> bool
+    ensures { λ r. ⌜ HasParent (now (bytes .entry)) at count (now (work .entry)) child i parent rows r ⌝ }
+{
+    let mut j: u8 = 0;
+    while j < rows {
+        if agrees(bytes, at, count, work, child, i, parent, j) {
+            return true;
+        }
+        j += 1;
+    }
+    false
+}
+
+// Whether each child row of the foreign key whose frame, its kind first, stands at `at` has a parent row.
+fn foreign_key_holds(bytes: &[u8], at: usize, counts: &[u8], work: &[i32]) -> bool
+    requires { ⌜ at ≤ length (now bytes) ⌝ }
+    ensures { λ r. ⌜ ForeignHeld (now (bytes .entry)) at (now (counts .entry)) (now (work .entry)) r ⌝ }
+{
+    let child = prefix::byte_at(bytes, at + 1);
+    let parent = prefix::byte_at(bytes, at + 2);
+    let count = prefix::byte_at(bytes, at + 3);
+    let children = prefix::byte_at(counts, child as usize);
+    let parents = prefix::byte_at(counts, parent as usize);
+    let mut i: u8 = 0;
+    while i < children {
+        if !has_parent(bytes, at + 4, count, work, child, i, parent, parents) {
+            return false;
+        }
+        i += 1;
+    }
+    true
+}
+
+// Whether each of `keys` foreign keys holds; their frames stand at `at`, each behind its length.
+// Refused: the first key alone; a child row without parent kept.
+pub fn foreign_keys_hold(bytes: &[u8], at: usize, keys: u8, counts: &[u8], work: &[i32]) -> bool
+    ensures { λ r. ⌜ ForeignsHeld (now (bytes .entry)) at keys (now (counts .entry)) (now (work .entry)) r ⌝ }
+{
+    let mut next = at;
+    let mut k: u8 = 0;
+    while k < keys {
+        if bytes.len() <= next {
+            return false;
+        }
+        if !foreign_key_holds(bytes, next + 1, counts, work) {
+            return false;
+        }
+        next = next + 1 + (bytes[next] as usize);
+        k += 1;
+    }
+    true
+}
+
+// Refused: primary keys alone; foreign keys alone.
+pub fn is_valid(bytes: &[u8], shape: &[u8], o: Outline, counts: &[u8], work: &[i32]) -> bool
+    ensures { λ r. ⌜ Validates (now (bytes .entry)) (now (shape .entry)) o (now (counts .entry)) (now (work .entry)) r ⌝ }
+{
+    if !keys_hold(shape, counts, work, o.tables) {
+        return false;
+    }
+    foreign_keys_hold(bytes, o.foreign, o.keys, counts, work)
+}
