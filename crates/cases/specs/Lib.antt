@@ -2,3 +2,5 @@
 pub mod Given
 pub mod Validity
 pub mod Needs
+pub mod Relations
+pub mod Judgement

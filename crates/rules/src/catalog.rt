@@ -173,7 +173,8 @@ fn least(a: u8, b: u8) -> u8
 }
 
 // At most 255.
-fn sum_of(a: u8, b: u8) -> u8
+// Refused: 254 for 255; the second number twice.
+pub fn sum_of(a: u8, b: u8) -> u8
     ensures { λ n. ⌜ n ≡ min (a + b) 255 ⌝ }
 {
     if a <= 255 - b { a + b } else { 255 }

@@ -1,0 +1,79 @@
+-- The views of a file one after the other, and whether a database is a case. Assumes nothing: these are definitions.
+use mathlib.Core.Path.{_≡_}
+use mathlib.Core.Bool.{Bool, true, false, cond}
+use mathlib.Core.List.{List, _++_}
+use Prim.Native.Nat.{ℕ, suc, _+_, _≤_, _<_}
+use lib.IntN.{ℤ}
+use lib.ListN.{length, getD, drop}
+use Rattle.meaning.specs.Lists.{isPos}
+use Rattle.meaning.specs.Syntax.{View, Row, File, Database}
+use Rattle.meaning.specs.Rows.{rowsOf, rows}
+use Rattle.meaning.specs.Bounds.{Schema, schema, schemas, viewSchema}
+use Rattle.meaning.specs.Valid.{Shaped}
+use Rattle.meaning.specs.Cases.{refuted as refutedB, negative, isCase}
+use Rattle.bounds.specs.Catalog.{widthAt}
+use Rattle.rules.specs.Written.{viewBytes}
+use Rattle.store.specs.Layout.{area}
+use Rattle.store.specs.Rows.{rowsIn}
+use Rattle.views.specs.Copies.{Apart}
+use Rattle.cases.specs.Given.{Given, TablesIn}
+use Rattle.cases.specs.Needs.{Flag, Covers}
+use Rattle.cases.specs.Relations.{columnsOf, AnyRows, Refutes}
+use Rattle.cases.specs.declared.outline.Outline.{Outline}
+
+-- ---- one view
+
+-- where its sign is asked it is noted, else nothing changes
+pub record SignNoted (bytes : List ℕ) (at : ℕ) (asked counts refuted : List ℕ) (work : List ℤ) (v : ℕ) (refuted′ : List ℕ) (work′ : List ℤ) : Type 0 where
+  pub apart : Apart v work work′
+  pub size : length refuted′ ≡ length refuted
+  pub others : (i : ℕ) → (i ≡ v → ⊥) → getD refuted′ i 0 ≡ getD refuted i 0
+  pub noted : Flag asked v → v < length refuted → (r : Bool) × Refutes bytes at counts refuted work v r work′ × (getD refuted′ v 0 ≡ cond r 1 0)
+
+-- where its rows are needed they are worked out, else nothing changes
+pub record RowsNoted (bytes : List ℕ) (at : ℕ) (shape needed counts : List ℕ) (work : List ℤ) (v : ℕ) (counts′ : List ℕ) (work′ : List ℤ) : Type 0 where
+  pub apart : Apart v work work′
+  pub size : length counts′ ≡ length counts
+  pub others : (i : ℕ) → (i ≡ v → ⊥) → getD counts′ i 0 ≡ getD counts i 0
+  pub noted : Flag needed v → v < length counts → AnyRows bytes at shape counts work v (getD counts′ v 0) work′
+
+-- ---- all views
+
+-- below relation v, needed relations have their rows in the work area, and the signs of views that are asked are told
+pub record Known (F : File) (d : Database) (needed asked counts refuted : List ℕ) (work : List ℤ) (v : ℕ) : Type 0 where
+  pub rows-known : (i : ℕ) → i < v → Flag needed i → rowsIn work i (columnsOf (schemas F) i) (getD counts i 0) ≡ rows F d i
+  pub signs-known : (i : ℕ) → length (F .tables) ≤ i → i < v → Flag asked i → getD refuted i 0 ≡ cond (negative F d (suc i) i) 1 0
+
+-- what a database's evaluation rests on
+pub record Ready (F : File) (d : Database) (needed asked counts refuted : List ℕ) (work : List ℤ) : Type 0 where
+  pub covers : Covers F needed asked
+  pub shaped : Shaped F d
+  pub tables : TablesIn F d counts work
+  pub whole : area ≤ length work
+  pub counts-size : length counts ≡ 16
+  pub refuted-size : length refuted ≡ 16
+
+-- the tables stay
+pub record TablesKept (tables : ℕ) (counts : List ℕ) (work : List ℤ) (counts′ : List ℕ) (work′ : List ℤ) : Type 0 where
+  pub size : length work′ ≡ length work
+  pub table : (t w n : ℕ) → t < tables → rowsIn work′ t w n ≡ rowsIn work t w n
+  pub counts-size : length counts′ ≡ length counts
+  pub count : (t : ℕ) → t < tables → getD counts′ t 0 ≡ getD counts t 0
+
+pub record Evaluates (bytes starts shape needed asked : List ℕ) (o : Outline) (counts refuted : List ℕ) (work : List ℤ) (counts′ refuted′ : List ℕ) (work′ : List ℤ) : Type 0 where
+  pub kept : TablesKept (o .tables) counts work counts′ work′
+  pub refuted-size : length refuted′ ≡ length refuted
+  pub known : {F : File} {d : Database} → Given F bytes starts shape o → length starts ≡ 16 → Ready F d needed asked counts refuted work
+      → Known F d needed asked counts′ refuted′ work′ (length (F .tables) + length (F .views))
+
+-- ---- the case
+
+pub record Verdict (o : Outline) (counts refuted : List ℕ) (r : Bool) : Type 0 where
+  pub by-rows : o .negative ≡ false → r ≡ isPos (getD counts (o .goal) 0)
+  pub by-sign : (b : Bool) → o .negative ≡ true → getD refuted (o .goal) 0 ≡ cond b 1 0 → r ≡ b
+
+-- of every legal file and every database of its row counts and value ranges
+pub record Judges (bytes starts shape needed asked : List ℕ) (o : Outline) (counts refuted : List ℕ) (work : List ℤ) (r : Bool) (counts′ refuted′ : List ℕ) (work′ : List ℤ) : Type 0 where
+  pub kept : TablesKept (o .tables) counts work counts′ work′
+  pub refuted-size : length refuted′ ≡ length refuted
+  pub case : (F : File) (d : Database) → Given F bytes starts shape o → length starts ≡ 16 → Ready F d needed asked counts refuted work → r ≡ isCase F (F .goal) d
