@@ -13,3 +13,7 @@ pub mod Uses
 -- rows written behind others
 pub mod Copying
 pub mod Intersecting
+-- rows of basic views
+pub mod Selecting
+pub mod Rooms
+pub mod Basic
