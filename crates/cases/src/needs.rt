@@ -14,7 +14,7 @@ struct Named {
 // Those of the view whose frame, its kind first, stands at `at`.
 fn names(bytes: &[u8], at: usize) -> Named
     requires { ⌜ at ≤ 4294967296 ⌝ }
-    ensures { λ r. ⌜ Names (now (bytes .entry)) at r ⌝ }
+    ensures { λ r. ⌜ (r .at ≤ at + 2) × Names (now (bytes .entry)) at r ⌝ }
 {
     if prefix::byte_at(bytes, at) < 5 {
         return Named {
@@ -57,13 +57,18 @@ fn need_rows(bytes: &[u8], at: usize, needed: &mut [u8], asked: &[u8], v: u8)
     requires { ⌜ at ≤ 4294967296 ⌝ }
     ensures { λ _. ⌜ NeedsRows (now (bytes .entry)) at (now (needed .entry)) (now (asked .entry)) v (now (needed .exit)) ⌝ }
 {
-    let place = v as usize;
     let named = names(bytes, at);
-    let rows = prefix::byte_at(needed, place) == 1;
-    let sign = prefix::byte_at(asked, place) == 1 && prefix::byte_at(bytes, at) < 5;
-    if rows || sign {
+    if prefix::byte_at(needed, v as usize) == 1 {
         set_names(bytes, named.at, named.count, needed);
+        return;
     }
+    if prefix::byte_at(asked, v as usize) != 1 {
+        return;
+    }
+    if 5 <= prefix::byte_at(bytes, at) {
+        return;
+    }
+    set_names(bytes, named.at, named.count, needed);
 }
 
 // The signs that view v asks: those of both operands, if it is a set view and its own is asked.

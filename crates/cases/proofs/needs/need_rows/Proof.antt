@@ -1,0 +1,68 @@
+-- `cases::needs::need_rows` meets its contract. Assumes nothing.
+use native.Mathlib.Omega.{arith}
+use borrow.Author.Needs.{needs}
+use Rattle.cases.proofs.FlagLaws.{no-flag}
+use Rattle.cases.proofs.NeedLaws.{rows-set, rows-kept}
+use Rattle.cases.proofs.needs.need_rows.Statement.{statement}
+use Rattle.cases.proofs.needs.need_rows.Tie as tie
+
+names-requires : tie.Need-names-requires
+names-requires c κs = search needs
+
+byte-at-requires : tie.Need-byte-at-requires
+byte-at-requires c κs = search needs
+
+set-names-requires : tie.Need-set-names-requires
+set-names-requires c κs = search needs
+
+same-length : tie.Need-same-length
+same-length c = search needs
+
+returns : tie.Need-returns
+returns c = rows-set (c .before .before .before .before .before .before .before .names .result) (c .before .before .before .before .before .before .before .names .ensures .1) (c .before .before .set-names .ensures)
+
+byte-at-requires-2 : tie.Need-byte-at-requires-2
+byte-at-requires-2 c κs = search needs
+
+same-length-2 : tie.Need-same-length-2
+same-length-2 c = search needs
+
+returns-2 : tie.Need-returns-2
+returns-2 c = rows-kept _ _ _ _ _ (no-flag (c .before .before .before .byte-at .ensures) (c .before .before .if1 .left)) (λ f. absurd (no-flag (c .before .byte-at2 .ensures) (c .if2 .taken) f))
+
+byte-at-requires-3 : tie.Need-byte-at-requires-3
+byte-at-requires-3 c κs = search needs
+
+same-length-3 : tie.Need-same-length-3
+same-length-3 c = search needs
+
+returns-3 : tie.Need-returns-3
+returns-3 c = rows-kept _ _ _ _ _ (no-flag (c .before .before .before .before .before .byte-at .ensures) (c .before .before .before .before .if1 .left)) (λ f. omega (arith, c .before .byte-at3 .ensures, c .if3 .taken))
+
+set-names-requires-2 : tie.Need-set-names-requires-2
+set-names-requires-2 c κs = search needs
+
+same-length-4 : tie.Need-same-length-4
+same-length-4 c = search needs
+
+returns-4 : tie.Need-returns-4
+returns-4 c = rows-set (c .before .before .before .before .before .before .before .before .before .before .before .names .result) (c .before .before .before .before .before .before .before .before .before .before .before .names .ensures .1) (c .before .before .set-names2 .ensures)
+
+pub need-rows-spec : {M : Type 1} → statement M
+need-rows-spec =
+    tie.close
+    (tie.spec
+    names-requires
+    byte-at-requires
+    set-names-requires
+    same-length
+    returns
+    byte-at-requires-2
+    same-length-2
+    returns-2
+    byte-at-requires-3
+    same-length-3
+    returns-3
+    set-names-requires-2
+    same-length-4
+    returns-4)

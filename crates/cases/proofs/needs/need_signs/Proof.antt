@@ -1,0 +1,52 @@
+-- `cases::needs::need_signs` meets its contract. Assumes nothing.
+use native.Mathlib.Omega.{arith}
+use borrow.Author.Needs.{needs}
+use Rattle.cases.proofs.FlagLaws.{no-flag}
+use Rattle.cases.proofs.NeedLaws.{signs-set, signs-kept}
+use Rattle.cases.proofs.needs.need_signs.Statement.{statement}
+use Rattle.cases.proofs.needs.need_signs.Tie as tie
+
+byte-at-requires : tie.Need-byte-at-requires
+byte-at-requires c κs = search needs
+
+same-length : tie.Need-same-length
+same-length c = search needs
+
+returns : tie.Need-returns
+returns c = signs-kept _ _ _ _ (λ f. absurd (no-flag (c .before .byte-at .ensures) (c .if1 .taken) f))
+
+byte-at-requires-2 : tie.Need-byte-at-requires-2
+byte-at-requires-2 c κs = search needs
+
+same-length-2 : tie.Need-same-length-2
+same-length-2 c = search needs
+
+returns-2 : tie.Need-returns-2
+returns-2 c = signs-kept _ _ _ _ (λ f. omega (arith, c .before .byte-at2 .ensures, c .if2 .taken))
+
+add-set-names : tie.Need-add-set-names
+add-set-names c = search needs
+
+set-names-requires : tie.Need-set-names-requires
+set-names-requires c κs = search needs
+
+same-length-3 : tie.Need-same-length-3
+same-length-3 c = search needs
+
+returns-3 : tie.Need-returns-3
+returns-3 c = signs-set (omega (arith, c .before .before .before .before .before .byte-at2 .ensures, c .before .before .before .before .if2 .left)) (c .before .before .set-names .ensures)
+
+pub need-signs-spec : {M : Type 1} → statement M
+need-signs-spec =
+    tie.close
+    (tie.spec
+    byte-at-requires
+    same-length
+    returns
+    byte-at-requires-2
+    same-length-2
+    returns-2
+    add-set-names
+    set-names-requires
+    same-length-3
+    returns-3)
