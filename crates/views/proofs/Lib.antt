@@ -17,3 +17,7 @@ pub mod Intersecting
 pub mod Selecting
 pub mod Rooms
 pub mod Basic
+-- groups and aggregate views
+pub mod Marking
+pub mod GroupLists
+pub mod GroupSteps
