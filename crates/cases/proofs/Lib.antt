@@ -3,9 +3,14 @@
 pub mod OutlineLaws
 pub mod FlagLaws
 pub mod NeedLaws
+-- primary and foreign keys
+pub mod RowTests
+pub mod KeyLaws
+pub mod ForeignLaws
+pub mod ValidLaws
 -- one view
 pub mod FrameBytes
 pub mod ViewLaws
 pub mod SignLaws
--- the file and its views in turn
+-- the file, and its views in turn
 pub mod FileLaws

@@ -1,0 +1,279 @@
+-- Foreign keys, tested pair by pair, row by row and key by key. Assumes nothing.
+use mathlib.Core.Path.{_≡_, refl, sym, ap, ap₂, _∙_}
+use mathlib.Core.Bool.{Bool, true, false, _&&_}
+use mathlib.Core.List.{List, [], _∷_, _++_, map, append-assoc}
+use Prim.Native.Nat.{ℕ, suc, _+_, _<_, _≤_}
+use native.Mathlib.Nat.{add-zero}
+use native.Mathlib.Omega.{arith}
+use lib.IntN.{ℤ}
+use lib.ListN.{length, getD, drop, drop-of-length-le}
+use lib.Seq.{drop-cons, drop-drop, getD-drop, drop-append-seam}
+use Rattle.text.specs.Answers.{pack}
+use Rattle.value.specs.Bag.{All}
+use Rattle.value.specs.Value.{Value, valueTest}
+use Rattle.meaning.specs.Lists.{all, any}
+use Rattle.meaning.specs.Syntax.{Row, Pair, ForeignKey, File, Database}
+use Rattle.meaning.specs.Evaluation.{missing}
+use Rattle.meaning.specs.Valid.{agrees, foreignKeyHolds}
+use Rattle.meaning.proofs.Elements.{all-at}
+use Rattle.rules.specs.Legal.{LegalKey, LegalPair, tableAt}
+use Rattle.rules.specs.Written.{keyBytes}
+use Rattle.store.specs.Layout.{cellIn}
+use Rattle.store.specs.Rows.{rowIn, rowsIn}
+use Rattle.store.proofs.RowLaws.{cell-of-row}
+use Rattle.cases.specs.Given.{TablesIn}
+use Rattle.cases.specs.Validity.{pairsBytes, Agreed, HasParent, ForeignHeld, ForeignsHeld}
+use Rattle.cases.proofs.RowTests.{all-none, all-step, all-stops, any-none, any-step, any-found}
+
+-- ---- lists at a place
+
+module _ {A : Type 0} where
+  at-place : (l : List A) (n k : ℕ) (d : A) (m : List A) → drop n l ≡ m → getD l (n + k) d ≡ getD m k d
+  at-place l n k d m e = sym (getD-drop n l k d) ∙ ap (λ t. getD t k d) e
+
+  -- something stands there
+  inside : (l : List A) (n : ℕ) (x : A) (m : List A) → drop n l ≡ x ∷ m → length l ≤ n → ⊥
+  inside l n x m e h = let z : length (x ∷ m) ≡ 0 = ap length (sym e ∙ drop-of-length-le l {i = n} h) in omega arith
+
+-- ---- two rows, pair by pair
+
+abbrev noPair : Pair
+noPair = record { child = 0; parent = 0 }
+
+-- the pairs from p on still tell, and their bytes stand at `next`
+pub record PairsFrom (bytes : List ℕ) (at count : ℕ) (work : List ℤ) (child i parent j next p : ℕ) : Type 0 where
+  pub rest-of : (ps : List Pair) (rest : List ℕ) → drop at bytes ≡ pairsBytes ps ++ rest → length ps ≡ count → (c q : ℕ) → All (LegalPair c q) ps
+      → (drop next bytes ≡ pairsBytes (drop p ps) ++ rest)
+      × (agrees ps (rowIn work child c i) (rowIn work parent q j) ≡ agrees (drop p ps) (rowIn work child c i) (rowIn work parent q j))
+
+module _ (bytes : List ℕ) (at count : ℕ) (work : List ℤ) (child i parent j : ℕ) where
+  pub pairs-first : PairsFrom bytes at count work child i parent j at 0
+  pairs-first = record { rest-of = λ ps rest e l c q legal. (e, refl) }
+
+  module _ {next p : ℕ} (s : PairsFrom bytes at count work child i parent j next p) (h : p < count) where
+    -- the bytes of pair p
+    stands : (ps : List Pair) (rest : List ℕ) → drop at bytes ≡ pairsBytes ps ++ rest → length ps ≡ count → (c q : ℕ) → All (LegalPair c q) ps
+        → drop next bytes ≡ getD ps p noPair .child ∷ getD ps p noPair .parent ∷ (pairsBytes (drop (suc p) ps) ++ rest)
+    stands ps rest e l c q legal =
+        s .rest-of ps rest e l c q legal .0 ∙ ap (λ t. pairsBytes t ++ rest) (drop-cons ps p noPair (omega arith))
+
+    pub pairs-inside : length bytes ≤ next → Agreed bytes at count work child i parent j false
+    pairs-inside o = record { agrees-on = λ ps rest e l c q legal. absurd (inside bytes next _ _ (stands ps rest e l c q legal) o) }
+
+    module _ {a b : ℕ} {x y : Value} (ea : a ≡ getD bytes next 0) (eb : b ≡ getD bytes (next + 1) 0)
+        (ex : x ≡ cellIn work child i a) (ey : y ≡ cellIn work parent j b) where
+      -- what pair p tells
+      tells : (ps : List Pair) (rest : List ℕ) → drop at bytes ≡ pairsBytes ps ++ rest → length ps ≡ count → (c q : ℕ) → All (LegalPair c q) ps
+          → agrees ps (rowIn work child c i) (rowIn work parent q j)
+          ≡ (valueTest .same x y && agrees (drop (suc p) ps) (rowIn work child c i) (rowIn work parent q j))
+      tells ps rest e l c q legal =
+          let μ = rowIn work child c i in
+          let ν = rowIn work parent q j in
+          let pair = getD ps p noPair in
+          let lp : p < length ps = omega arith in
+          let ok = all-at legal noPair p lp in
+          let there = stands ps rest e l c q legal in
+          let fa : a ≡ pair .child = ea ∙ ap (λ n. getD bytes n 0) (sym (add-zero next)) ∙ at-place bytes next 0 0 _ there in
+          let fb : b ≡ pair .parent = eb ∙ at-place bytes next 1 0 _ there in
+          let fx : getD μ (pair .child) missing ≡ x = cell-of-row work child c i (pair .child) (ok .child) ∙ sym (ex ∙ ap (cellIn work child i) fa) in
+          let fy : getD ν (pair .parent) missing ≡ y = cell-of-row work parent q j (pair .parent) (ok .parent) ∙ sym (ey ∙ ap (cellIn work parent j) fb) in
+          s .rest-of ps rest e l c q legal .1
+          ∙ ap (λ t. agrees t μ ν) (drop-cons ps p noPair lp)
+          ∙ ap₂ (λ u v. valueTest .same u v && agrees (drop (suc p) ps) μ ν) fx fy
+
+      pub pairs-stop : valueTest .same x y ≡ false → Agreed bytes at count work child i parent j false
+      pairs-stop f = record { agrees-on = λ ps rest e l c q legal. sym (tells ps rest e l c q legal ∙ rw f) }
+
+      pub pairs-next : valueTest .same x y ≡ true → PairsFrom bytes at count work child i parent j (next + 2) (p + 1)
+      pairs-next t = record {
+        rest-of = λ ps rest e l c q legal.
+            let n : p + 1 ≡ suc p = omega arith in
+            rw n (sym (drop-drop 2 next bytes) ∙ ap (drop 2) (stands ps rest e l c q legal), tells ps rest e l c q legal ∙ rw t);
+      }
+
+  pub pairs-whole : {next p : ℕ} → count ≤ p → PairsFrom bytes at count work child i parent j next p → Agreed bytes at count work child i parent j true
+  pairs-whole {next} {p} h s = record {
+    agrees-on = λ ps rest e l c q legal.
+        let z : length ps ≤ p = omega arith in
+        sym (s .rest-of ps rest e l c q legal .1 ∙ rw (drop-of-length-le ps {i = p} z));
+  }
+
+-- ---- a row and the rows of a parent
+
+-- none of the first n rows of the parent agrees
+pub record NoParent (bytes : List ℕ) (at count : ℕ) (work : List ℤ) (child i parent n : ℕ) : Type 0 where
+  pub none-agrees : (ps : List Pair) (rest : List ℕ) → drop at bytes ≡ pairsBytes ps ++ rest → length ps ≡ count → (c q : ℕ) → All (LegalPair c q) ps
+      → any (agrees ps (rowIn work child c i)) (rowsIn work parent q n) ≡ false
+
+module _ (bytes : List ℕ) (at count : ℕ) (work : List ℤ) (child i parent : ℕ) where
+  pub parent-none : NoParent bytes at count work child i parent 0
+  parent-none = record { none-agrees = λ ps rest e l c q legal. any-none work parent q (agrees ps (rowIn work child c i)) }
+
+  pub parent-more : {j : ℕ} {r : Bool} → NoParent bytes at count work child i parent j → Agreed bytes at count work child i parent j r → r ≡ false
+      → NoParent bytes at count work child i parent (j + 1)
+  parent-more {j} n a f = record {
+    none-agrees = λ ps rest e l c q legal.
+        any-step work parent q (agrees ps (rowIn work child c i)) j (n .none-agrees ps rest e l c q legal) (sym (a .agrees-on ps rest e l c q legal) ∙ f);
+  }
+
+  pub parent-found : {rows j : ℕ} {r : Bool} → j < rows → Agreed bytes at count work child i parent j r → r ≡ true
+      → HasParent bytes at count work child i parent rows true
+  parent-found {rows} {j} h a t = record {
+    parent-is = λ ps rest e l c q legal.
+        sym (any-found work parent q (agrees ps (rowIn work child c i)) rows j h (sym (a .agrees-on ps rest e l c q legal) ∙ t));
+  }
+
+  pub parent-missing : {rows j : ℕ} → j ≡ rows → NoParent bytes at count work child i parent j → HasParent bytes at count work child i parent rows false
+  parent-missing {rows} {j} k n = record {
+    parent-is = λ ps rest e l c q legal.
+        sym (ap (λ m. any (agrees ps (rowIn work child c i)) (rowsIn work parent q m)) (sym k) ∙ n .none-agrees ps rest e l c q legal);
+  }
+
+-- ---- a foreign key
+
+-- the fields of a key whose frame stands at a place
+key-fields : (bytes : List ℕ) (at : ℕ) (k : ForeignKey) (rest : List ℕ) → drop at bytes ≡ keyBytes k ++ rest
+    → (getD bytes (at + 1) 0 ≡ k .child) × (getD bytes (at + 2) 0 ≡ k .parent) × (getD bytes (at + 3) 0 ≡ length (k .pairs))
+    × (drop (at + 4) bytes ≡ pairsBytes (k .pairs) ++ rest)
+unfolding keyBytes
+key-fields bytes at k rest e =
+    (at-place bytes at 1 0 _ e, at-place bytes at 2 0 _ e, at-place bytes at 3 0 _ e, sym (drop-drop 4 at bytes) ∙ ap (drop 4) e)
+
+-- the first n rows of the child have parents
+pub record ParentsTo (bytes : List ℕ) (at : ℕ) (counts : List ℕ) (work : List ℤ) (n : ℕ) : Type 0 where
+  pub each-row : (F : File) (d : Database) (k : ForeignKey) (rest : List ℕ) → drop at bytes ≡ keyBytes k ++ rest → LegalKey (F .tables) k
+      → TablesIn F d counts work
+      → all (λ μ. any (agrees (k .pairs) μ) (getD d (k .parent) [])) (rowsIn work (k .child) (length (tableAt (F .tables) (k .child) .columns)) n) ≡ true
+
+pub parents-none : (bytes : List ℕ) (at : ℕ) (counts : List ℕ) (work : List ℤ) → ParentsTo bytes at counts work 0
+parents-none bytes at counts work =
+    record {
+      each-row = λ F d k rest e legal s.
+          all-none work (k .child) (length (tableAt (F .tables) (k .child) .columns)) (λ μ. any (agrees (k .pairs) μ) (getD d (k .parent) []));
+    }
+
+module _ (bytes : List ℕ) (at : ℕ) (counts : List ℕ) (work : List ℤ) {child parent count children parents : ℕ}
+    (ec : child ≡ getD bytes (at + 1) 0) (ep : parent ≡ getD bytes (at + 2) 0) (en : count ≡ getD bytes (at + 3) 0)
+    (es : children ≡ getD counts child 0) (eq : parents ≡ getD counts parent 0) where
+  module _ (F : File) (d : Database) (k : ForeignKey) (rest : List ℕ) (e : drop at bytes ≡ keyBytes k ++ rest)
+      (legal : LegalKey (F .tables) k) (s : TablesIn F d counts work) where
+    abbrev p : Row → Bool
+    p μ = any (agrees (k .pairs) μ) (getD d (k .parent) [])
+
+    abbrev w : ℕ
+    w = length (tableAt (F .tables) (k .child) .columns)
+
+    row-told : {i : ℕ} {r : Bool} → HasParent bytes (at + 4) count work child i parent parents r → r ≡ p (rowIn work (k .child) w i)
+    row-told {i} a =
+        let (fc, fp, fn, fb) = key-fields bytes at k rest e in
+        let v = length (tableAt (F .tables) (k .parent) .columns) in
+        let hp : parents ≡ getD counts (k .parent) 0 = eq ∙ ap (λ n. getD counts n 0) (ep ∙ fp) in
+        a .parent-is (k .pairs) rest fb (sym (en ∙ fn)) w v (legal .fields .pairs)
+        ∙ ap₂ (λ (x : ℕ) (R : List Row). any (agrees (k .pairs) (rowIn work x w i)) R) (ec ∙ fc)
+        (ap₂ (λ x n. rowsIn work x v n) (ep ∙ fp) hp ∙ s .table (k .parent) (legal .fields .parent))
+
+    children-are : rowsIn work (k .child) w children ≡ getD d (k .child) []
+    children-are =
+        let (fc, _, _, _) = key-fields bytes at k rest e in
+        ap (rowsIn work (k .child) w) (es ∙ ap (λ n. getD counts n 0) (ec ∙ fc)) ∙ s .table (k .child) (legal .fields .child)
+
+  pub parents-more : {i : ℕ} {r : Bool} → ParentsTo bytes at counts work i → HasParent bytes (at + 4) count work child i parent parents r → r ≡ true
+      → ParentsTo bytes at counts work (i + 1)
+  parents-more {i} n a t = record {
+    each-row = λ F d k rest e legal s.
+        all-step work (k .child) (w F d k rest e legal s) (p F d k rest e legal s) i (n .each-row F d k rest e legal s)
+        (sym (row-told F d k rest e legal s a) ∙ t);
+  }
+
+  pub parents-stop : {i : ℕ} {r : Bool} → i < children → HasParent bytes (at + 4) count work child i parent parents r → r ≡ false
+      → ForeignHeld bytes at counts work false
+  parents-stop {i} h a f = record {
+    holds = λ F d k rest e legal s.
+        let u = w F d k rest e legal s in
+        let t = p F d k rest e legal s in
+        sym (ap (all t) (sym (children-are F d k rest e legal s)) ∙ all-stops work (k .child) u t children i h (sym (row-told F d k rest e legal s a) ∙ f));
+  }
+
+  pub parents-whole : {i : ℕ} → i ≡ children → ParentsTo bytes at counts work i → ForeignHeld bytes at counts work true
+  parents-whole {i} q n = record {
+    holds = λ F d k rest e legal s.
+        let u = w F d k rest e legal s in
+        let t = p F d k rest e legal s in
+        sym (ap (all t) (sym (children-are F d k rest e legal s)) ∙ ap (λ m. all t (rowsIn work (k .child) u m)) (sym q) ∙ n .each-row F d k rest e legal s);
+  }
+
+-- ---- the foreign keys of a file
+
+abbrev noKey : ForeignKey
+noKey = record { child = 0; parent = 0; pairs = [] }
+
+pack-more : (f : List ℕ) (fs : List (List ℕ)) → pack (f ∷ fs) ≡ length f ∷ f ++ pack fs
+unfolding pack
+pack-more f fs = refl
+
+-- the keys from k on still tell, and their frames stand at `next`
+pub record KeysFrom (bytes : List ℕ) (at keys : ℕ) (counts : List ℕ) (work : List ℤ) (next n : ℕ) : Type 0 where
+  pub rest-of : (F : File) (d : Database) (ks : List ForeignKey) (rest : List ℕ) → drop at bytes ≡ pack (map keyBytes ks) ++ rest → length ks ≡ keys
+      → All (LegalKey (F .tables)) ks → TablesIn F d counts work
+      → (drop next bytes ≡ pack (map keyBytes (drop n ks)) ++ rest) × (all (foreignKeyHolds d) ks ≡ all (foreignKeyHolds d) (drop n ks))
+
+module _ (bytes : List ℕ) (at keys : ℕ) (counts : List ℕ) (work : List ℤ) where
+  pub keys-first : KeysFrom bytes at keys counts work at 0
+  keys-first = record { rest-of = λ F d ks rest e l legal s. (e, refl) }
+
+  module _ {next n : ℕ} (a : KeysFrom bytes at keys counts work next n) (h : n < keys) where
+    module _ (F : File) (d : Database) (ks : List ForeignKey) (rest : List ℕ) (e : drop at bytes ≡ pack (map keyBytes ks) ++ rest) (l : length ks ≡ keys)
+        (legal : All (LegalKey (F .tables)) ks) (s : TablesIn F d counts work) where
+      abbrev frame : List ℕ
+      frame = keyBytes (getD ks n noKey)
+
+      abbrev behind : List ℕ
+      behind = pack (map keyBytes (drop (suc n) ks)) ++ rest
+
+      frame-stands : drop next bytes ≡ length frame ∷ (frame ++ behind)
+      frame-stands =
+          a .rest-of F d ks rest e l legal s .0
+          ∙ ap (λ t. pack (map keyBytes t) ++ rest) (drop-cons ks n noKey (omega arith))
+          ∙ ap (λ t. t ++ rest) (pack-more frame (map keyBytes (drop (suc n) ks)))
+          ∙ ap (λ t. length frame ∷ t) (append-assoc frame (pack (map keyBytes (drop (suc n) ks))) rest)
+
+      key-told : {r : Bool} → ForeignHeld bytes (next + 1) counts work r → all (foreignKeyHolds d) ks ≡ (r && all (foreignKeyHolds d) (drop (suc n) ks))
+      key-told {r} f =
+          let k = getD ks n noKey in
+          let ln : n < length ks = omega arith in
+          let fe : drop (next + 1) bytes ≡ frame ++ behind = sym (drop-drop 1 next bytes) ∙ ap (drop 1) frame-stands in
+          let t : r ≡ foreignKeyHolds d k = f .holds F d k behind fe (all-at legal noKey n ln) s in
+          a .rest-of F d ks rest e l legal s .1
+          ∙ ap (all (foreignKeyHolds d)) (drop-cons ks n noKey ln)
+          ∙ ap (λ b. b && all (foreignKeyHolds d) (drop (suc n) ks)) (sym t)
+
+    pub keys-inside : length bytes ≤ next → ForeignsHeld bytes at keys counts work false
+    keys-inside o = record { hold = λ F d ks rest e l legal s. absurd (inside bytes next _ _ (frame-stands F d ks rest e l legal s) o) }
+
+    pub keys-stop : {r : Bool} → ForeignHeld bytes (next + 1) counts work r → r ≡ false → ForeignsHeld bytes at keys counts work false
+    keys-stop f z = record { hold = λ F d ks rest e l legal s. sym (key-told F d ks rest e l legal s f ∙ rw z) }
+
+    pub keys-next : {r : Bool} {size : ℕ} → ForeignHeld bytes (next + 1) counts work r → r ≡ true → size ≡ getD bytes next 0
+        → KeysFrom bytes at keys counts work (next + 1 + size) (n + 1)
+    keys-next {r} {size} f z es = record {
+      rest-of = λ F d ks rest e l legal s.
+          let m : n + 1 ≡ suc n = omega arith in
+          let there = frame-stands F d ks rest e l legal s in
+          let fr = frame F d ks rest e l legal s in
+          let bh = behind F d ks rest e l legal s in
+          let fs : size ≡ length fr = es ∙ ap (λ k. getD bytes k 0) (sym (add-zero next)) ∙ at-place bytes next 0 0 _ there in
+          rw m (
+            sym (drop-drop size (next + 1) bytes)
+                ∙ ap (drop size) (sym (drop-drop 1 next bytes) ∙ ap (drop 1) there)
+                ∙ ap (λ k. drop k (fr ++ bh)) fs
+                ∙ drop-append-seam fr bh,
+            key-told F d ks rest e l legal s f ∙ rw z,
+          );
+    }
+
+  pub keys-end : {next n : ℕ} → keys ≤ n → KeysFrom bytes at keys counts work next n → ForeignsHeld bytes at keys counts work true
+  keys-end {next} {n} h a = record {
+    hold = λ F d ks rest e l legal s.
+        let z : length ks ≤ n = omega arith in
+        sym (a .rest-of F d ks rest e l legal s .1 ∙ rw (drop-of-length-le ks {i = n} z));
+  }

@@ -1,0 +1,86 @@
+-- `cases::validity::agrees` meets its contract. Assumes nothing.
+use mathlib.Core.Path.{sym, _∙_}
+use Prim.Native.Nat.{_-_, _≤_}
+use native.Mathlib.Omega.{arith}
+use borrow.Author.Needs.{needs}
+use Rattle.cases.proofs.RowTests.{not-true, not-false}
+use Rattle.cases.proofs.ForeignLaws.{PairsFrom, pairs-first, pairs-inside, pairs-stop, pairs-next, pairs-whole}
+use Rattle.cases.proofs.validity.agrees.Statement.{statement}
+use Rattle.cases.proofs.validity.agrees.Tie as tie
+
+abbrev Inv-loop : tie.InvT-loop
+Inv-loop bytes at count work child i parent j next₀ p₀ next p = (p ≤ count) × PairsFrom bytes at count work child i parent j next p
+
+abbrev μ-loop : tie.MeasureT-loop
+μ-loop bytes at count work child i parent j next₀ p₀ next p = count - p
+
+loop-holds : tie.Need-loop-holds Inv-loop μ-loop
+loop-holds c = (omega arith, pairs-first _ _ _ _ _ _ _ _)
+
+returns : tie.Need-returns Inv-loop μ-loop
+returns c = pairs-inside _ _ _ _ _ _ _ _ (c .before .before .loop .inv .1) (c .before .loop-test .taken) (c .if1 .taken)
+
+byte-at-requires : tie.Need-byte-at-requires Inv-loop μ-loop
+byte-at-requires c κs = search needs
+
+cast-a : tie.Need-cast-a Inv-loop μ-loop
+cast-a c = search needs
+
+add-byte-at : tie.Need-add-byte-at Inv-loop μ-loop
+add-byte-at c = search needs
+
+byte-at-requires-2 : tie.Need-byte-at-requires-2 Inv-loop μ-loop
+byte-at-requires-2 c κs = search needs
+
+cast-b : tie.Need-cast-b Inv-loop μ-loop
+cast-b c = search needs
+
+cell-requires : tie.Need-cell-requires Inv-loop μ-loop
+cell-requires c κs = search needs
+
+cell-requires-2 : tie.Need-cell-requires-2 Inv-loop μ-loop
+cell-requires-2 c κs = search needs
+
+same-requires : tie.Need-same-requires Inv-loop μ-loop
+same-requires c κs = search needs
+
+returns-2 : tie.Need-returns-2 Inv-loop μ-loop
+returns-2 c = pairs-stop _ _ _ _ _ _ _ _ (c .before .before .before .before .before .before .before .before .loop .inv .1) (c .before .before .before .before .before .before .before .loop-test .taken) (c .before .before .before .before .before .byte-at .ensures) (c .before .before .before .before .byte-at2 .ensures) (c .before .before .before .cell .ensures) (c .before .before .cell2 .ensures) (sym (c .before .same .ensures) ∙ not-true _ (c .if2 .taken))
+
+add-next : tie.Need-add-next Inv-loop μ-loop
+add-next c = search needs
+
+add-p : tie.Need-add-p Inv-loop μ-loop
+add-p c = search needs
+
+loop-less : tie.Need-loop-less Inv-loop μ-loop
+loop-less c = omega arith
+
+loop-again : tie.Need-loop-again Inv-loop μ-loop
+loop-again c = (omega arith, pairs-next _ _ _ _ _ _ _ _ (c .before .before .before .before .before .before .before .before .loop .inv .1) (c .before .before .before .before .before .before .before .loop-test .taken) (c .before .before .before .before .before .byte-at .ensures) (c .before .before .before .before .byte-at2 .ensures) (c .before .before .before .cell .ensures) (c .before .before .cell2 .ensures) (sym (c .before .same .ensures) ∙ not-false _ (c .if2 .left)))
+
+returns-3 : tie.Need-returns-3 Inv-loop μ-loop
+returns-3 c = pairs-whole _ _ _ _ _ _ _ _ (omega arith) (c .before .loop .inv .1)
+
+pub agrees-spec : {M : Type 1} → statement M
+agrees-spec =
+    tie.close
+    (tie.spec
+    Inv-loop
+    μ-loop
+    loop-holds
+    returns
+    byte-at-requires
+    cast-a
+    add-byte-at
+    byte-at-requires-2
+    cast-b
+    cell-requires
+    cell-requires-2
+    same-requires
+    returns-2
+    add-next
+    add-p
+    loop-less
+    loop-again
+    returns-3)
