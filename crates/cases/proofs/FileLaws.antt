@@ -1,27 +1,24 @@
 -- What a legal file says of each of its relations. Assumes nothing.
-use mathlib.Core.Path.{_≡_, refl, sym, ap, subst, _∙_}
-use mathlib.Core.Bool.{true}
+use mathlib.Core.Path.{_≡_, refl, sym, _∙_}
 use mathlib.Core.List.{List, [], _∷_, _++_, map}
 use mathlib.Core.Option.{some, Option·none-ne-some}
-use Prim.Native.Nat.{ℕ, zero, suc, _+_, _-_, _≤_, _<_, min}
+use Prim.Native.Nat.{ℕ, zero, suc, _+_, _-_, _≤_, _<_}
 use native.Mathlib.Nat.{add-zero}
 use native.Mathlib.Omega.{arith}
-use lib.Dec.{leb, eqb}
-use lib.ListN.{length, getD, getElem?, take, length-map, length-take}
+use lib.ListN.{length, getElem?, take, length-map, length-take}
 use lib.Seq.{take-at, getD-take}
-use borrow.Author.Tests.{leb-true, eqb-true}
+use borrow.Author.Tests.{leb-true}
 use Rattle.value.specs.Bag.{All}
-use Rattle.value.proofs.Values.{all-map}
 use Rattle.range.specs.declared.Range.{Range}
 use Rattle.meaning.specs.Lists.{stack}
 use Rattle.meaning.specs.Syntax.{View, Table, File}
 use Rattle.meaning.specs.Algebra.{query}
 use Rattle.meaning.specs.Bounds.{Schema, noSchema, schema, schemas, tableSchema, viewSchema, hulls}
-use Rattle.meaning.proofs.Elements.{all-image, all-append, all-at}
+use Rattle.meaning.proofs.Elements.{all-image, all-append}
 use Rattle.meaning.proofs.Relations.{query-split}
-use Rattle.meaning.proofs.Stacks.{by-lt, length-snoc, stack-take, stack-at, length-stack}
+use Rattle.meaning.proofs.Stacks.{length-snoc, stack-take, stack-at, length-stack}
 use Rattle.rules.specs.Legal.{Legal, LegalTable, LegalView, EveryView}
-use Rattle.cases.specs.Relations.{Small, columnsOf}
+use Rattle.cases.specs.Relations.{Small}
 
 -- a property of every view is one of each, over the schemas before it
 every-at : {P : List Schema → View → Type 0} {qs : List View} {ss : List Schema} → EveryView P qs ss → (k : ℕ) (q : View) → getElem? qs k ≡ some q

@@ -14,3 +14,5 @@ pub mod ViewLaws
 pub mod SignLaws
 -- the file, and its views in turn
 pub mod FileLaws
+pub mod Turns
+pub mod JudgementLaws

@@ -23,7 +23,7 @@ use Rattle.cases.specs.Validity.{ForeignsHeld, KeysHeld, Validates}
 use Rattle.cases.specs.declared.outline.Outline.{Outline}
 
 -- a table's schema, behind which those of the views stand
-table-width : (F : File) (t : ℕ) → t < length (F .tables) → length (schema (schemas F) t .ranges) ≡ length (tableAt (F .tables) t .columns)
+pub table-width : (F : File) (t : ℕ) → t < length (F .tables) → length (schema (schemas F) t .ranges) ≡ length (tableAt (F .tables) t .columns)
 table-width F t h =
     let tb = tableAt (F .tables) t in
     let e : schema (schemas F) t ≡ tableSchema tb =

@@ -4,6 +4,7 @@ use super::outline::Outline;
 use super::relation;
 use super::validity;
 ghost use mathlib.Core.Path.{_≡_};
+ghost use mathlib.Core.Bool.{cond};
 ghost use Prim.Native.Nat.{_≤_};
 ghost use lib.ListN.{set};
 ghost use Rattle.cases.specs.Relations.{frameLimit};
@@ -18,6 +19,13 @@ fn put_byte(bytes: &mut [u8], i: u8, b: u8)
         return;
     }
     bytes[place] = b;
+}
+
+// 1 for true, 0 for false.
+fn one_if(b: bool) -> u8
+    ensures { λ r. ⌜ r ≡ cond b 1 0 ⌝ }
+{
+    if b { 1 } else { 0 }
 }
 
 // Whether view v is negative, if it is asked.
@@ -37,7 +45,7 @@ fn note_sign(
         return;
     }
     let sign = relation::is_refuted(bytes, at, counts, refuted, work, v);
-    put_byte(refuted, v, if sign { 1 } else { 0 });
+    put_byte(refuted, v, one_if(sign));
 }
 
 // The rows of view v, if they are needed, and their number.

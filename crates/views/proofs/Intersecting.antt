@@ -26,14 +26,6 @@ use Rattle.views.proofs.Copying.{apart-same, apart-more, apart-put, row
 
 -- ---- rows that are the same
 
-pub not-true : (t : Bool) → not t ≡ true → t ≡ false
-not-true true e = sym e
-not-true false e = refl
-
-pub not-false : (t : Bool) → not t ≡ false → t ≡ true
-not-false true e = refl
-not-false false e = sym e
-
 and-false : (t : Bool) → (t && false) ≡ false
 and-false true = refl
 and-false false = refl

@@ -1,60 +1,51 @@
+-- `cases::judgement::evaluate` meets its contract. Assumes nothing.
+use mathlib.Core.Path.{_≡_, refl}
+use Prim.Native.Nat.{_-_}
+use native.Mathlib.Omega.{arith}
+use lib.ListN.{length}
+use borrow.Author.Needs.{needs}
+use Rattle.cases.proofs.JudgementLaws.{Turned, turned-none, turned-more, turned-all}
 use Rattle.cases.proofs.judgement.evaluate.Statement.{statement}
 use Rattle.cases.proofs.judgement.evaluate.Tie as tie
-use Rattle.cases.proofs.judgement.evaluate.Reads as reads
-use Rattle.cases.proofs.judgement.evaluate.Lts as lts
-use Rattle.cases.proofs.judgement.note_rows.Reads as note-rows-reads
-use Rattle.cases.proofs.judgement.note_sign.Reads as note-sign-reads
-use Rattle.cases.proofs.needs.frame_at.Reads as frame-at-reads
 
 abbrev Inv-loop : tie.InvT-loop
-Inv-loop bytes starts shape needed asked o counts₀ refuted₀ work₀ v₀ counts refuted work v = ?
+Inv-loop bytes starts shape needed asked o counts₀ refuted₀ work₀ v₀ counts refuted work v = Turned bytes starts shape needed asked o counts₀ refuted₀ work₀ counts refuted work v × (length counts ≡ length counts₀) × (length refuted ≡ length refuted₀) × (length work ≡ length work₀)
 
 abbrev μ-loop : tie.MeasureT-loop
-μ-loop bytes starts shape needed asked o counts₀ refuted₀ work₀ v₀ counts refuted work v = ?
+μ-loop bytes starts shape needed asked o counts₀ refuted₀ work₀ v₀ counts refuted work v = o .relations - v
 
--- src/judgement.rt:80:5
 loop-holds : tie.Need-loop-holds Inv-loop μ-loop
-loop-holds c = ?
+loop-holds c = (turned-none, refl, refl, refl)
 
--- src/judgement.rt:81:13
 frame-at-requires : tie.Need-frame-at-requires Inv-loop μ-loop
-frame-at-requires c κs = ?
+frame-at-requires c κs = search needs
 
--- src/judgement.rt:82:9
 note-sign-requires : tie.Need-note-sign-requires Inv-loop μ-loop
-note-sign-requires c κs = ?
+note-sign-requires c κs = search needs
 
--- src/judgement.rt:83:9
 note-rows-requires : tie.Need-note-rows-requires Inv-loop μ-loop
-note-rows-requires c κs = ?
+note-rows-requires c κs = search needs
 
--- src/judgement.rt:84:9
 add-v : tie.Need-add-v Inv-loop μ-loop
-add-v c = ?
+add-v c = search needs
 
--- src/judgement.rt:80:5
 loop-less : tie.Need-loop-less Inv-loop μ-loop
-loop-less c = ?
+loop-less c = omega arith
 
--- src/judgement.rt:80:5
 loop-again : tie.Need-loop-again Inv-loop μ-loop
-loop-again c = ?
+loop-again c = (turned-more (c .before .before .before .before .before .before .before .before .before .before .before .before .before .before .before .before .loop .inv .0) (omega arith) (c .before .before .before .before .before .before .before .before .before .before .before .before .before .frame-at .ensures .1) (c .before .before .before .before .before .before .before .before .before .note-sign .ensures) (c .before .before .before .note-rows .ensures), search needs, search needs, search needs)
 
--- src/judgement.rt:66:1
 same-length : tie.Need-same-length Inv-loop μ-loop
-same-length c = ?
+same-length c = search needs
 
--- src/judgement.rt:66:1
 same-length-2 : tie.Need-same-length-2 Inv-loop μ-loop
-same-length-2 c = ?
+same-length-2 c = search needs
 
--- src/judgement.rt:66:1
 same-length-3 : tie.Need-same-length-3 Inv-loop μ-loop
-same-length-3 c = ?
+same-length-3 c = search needs
 
--- src/judgement.rt:66:1
 returns : tie.Need-returns Inv-loop μ-loop
-returns c = ?
+returns c = turned-all (c .before .before .loop .inv .0) (omega arith)
 
 pub evaluate-spec : {M : Type 1} → statement M
 evaluate-spec =

@@ -2,8 +2,8 @@
 use mathlib.Core.Path.{sym, _∙_}
 use Prim.Native.Nat.{_-_, _≤_}
 use native.Mathlib.Omega.{arith}
+use borrow.Author.Tests.{not-false, not-true}
 use borrow.Author.Needs.{needs}
-use Rattle.cases.proofs.RowTests.{not-true, not-false}
 use Rattle.cases.proofs.ForeignLaws.{PairsFrom, pairs-first, pairs-inside, pairs-stop, pairs-next, pairs-whole}
 use Rattle.cases.proofs.validity.agrees.Statement.{statement}
 use Rattle.cases.proofs.validity.agrees.Tie as tie

@@ -3,8 +3,8 @@ use mathlib.Core.Path.{sym, _∙_}
 use mathlib.Core.Logic.{⊎-elim}
 use Prim.Native.Nat.{_-_, _≤_}
 use native.Mathlib.Omega.{arith}
+use borrow.Author.Tests.{not-false, not-true}
 use borrow.Author.Needs.{needs}
-use Rattle.cases.proofs.RowTests.{not-true, not-false}
 use Rattle.cases.proofs.KeyLaws.{Rest, rest-first, rest-stops, rest-same, rest-unmarked, rest-none}
 use Rattle.cases.proofs.validity.differ.Statement.{statement}
 use Rattle.cases.proofs.validity.differ.Tie as tie

@@ -1,8 +1,8 @@
 -- `cases::validity::differs_from_earlier` meets its contract. Assumes nothing.
 use Prim.Native.Nat.{_-_, _≤_}
 use native.Mathlib.Omega.{arith}
+use borrow.Author.Tests.{not-false, not-true}
 use borrow.Author.Needs.{needs}
-use Rattle.cases.proofs.RowTests.{not-true, not-false}
 use Rattle.cases.proofs.KeyLaws.{Apart, apart-none, apart-more, apart-stops, apart-whole}
 use Rattle.cases.proofs.validity.differs_from_earlier.Statement.{statement}
 use Rattle.cases.proofs.validity.differs_from_earlier.Tie as tie

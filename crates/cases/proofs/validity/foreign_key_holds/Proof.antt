@@ -1,8 +1,8 @@
 -- `cases::validity::foreign_key_holds` meets its contract. Assumes nothing.
 use Prim.Native.Nat.{_-_, _≤_}
 use native.Mathlib.Omega.{arith}
+use borrow.Author.Tests.{not-false, not-true}
 use borrow.Author.Needs.{needs}
-use Rattle.cases.proofs.RowTests.{not-true, not-false}
 use Rattle.cases.proofs.ForeignLaws.{ParentsTo, parents-none, parents-more, parents-stop, parents-whole}
 use Rattle.cases.proofs.validity.foreign_key_holds.Statement.{statement}
 use Rattle.cases.proofs.validity.foreign_key_holds.Tie as tie

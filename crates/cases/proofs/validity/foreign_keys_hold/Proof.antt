@@ -2,8 +2,8 @@
 use mathlib.Core.Path.{refl}
 use Prim.Native.Nat.{_-_, _≤_}
 use native.Mathlib.Omega.{arith}
+use borrow.Author.Tests.{not-false, not-true}
 use borrow.Author.Needs.{needs}
-use Rattle.cases.proofs.RowTests.{not-true, not-false}
 use Rattle.cases.proofs.ForeignLaws.{KeysFrom, keys-first, keys-inside, keys-stop, keys-next, keys-end}
 use Rattle.cases.proofs.validity.foreign_keys_hold.Statement.{statement}
 use Rattle.cases.proofs.validity.foreign_keys_hold.Tie as tie

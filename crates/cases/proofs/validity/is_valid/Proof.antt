@@ -1,6 +1,6 @@
 -- `cases::validity::is_valid` meets its contract. Assumes nothing.
+use borrow.Author.Tests.{not-false, not-true}
 use borrow.Author.Needs.{needs}
-use Rattle.cases.proofs.RowTests.{not-true, not-false}
 use Rattle.cases.proofs.ValidLaws.{invalid-keys, valid-both}
 use Rattle.cases.proofs.validity.is_valid.Statement.{statement}
 use Rattle.cases.proofs.validity.is_valid.Tie as tie

@@ -1,8 +1,8 @@
 -- `cases::validity::key_holds` meets its contract. Assumes nothing.
 use Prim.Native.Nat.{_-_, _≤_}
 use native.Mathlib.Omega.{arith}
+use borrow.Author.Tests.{not-false, not-true}
 use borrow.Author.Needs.{needs}
-use Rattle.cases.proofs.RowTests.{not-true, not-false}
 use Rattle.cases.proofs.KeyLaws.{held-unkeyed, Distinct, distinct-none, distinct-more, distinct-stops, distinct-whole}
 use Rattle.cases.proofs.validity.key_holds.Statement.{statement}
 use Rattle.cases.proofs.validity.key_holds.Tie as tie

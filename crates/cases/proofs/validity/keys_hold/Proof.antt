@@ -1,8 +1,8 @@
 -- `cases::validity::keys_hold` meets its contract. Assumes nothing.
 use Prim.Native.Nat.{_-_, _≤_}
 use native.Mathlib.Omega.{arith}
+use borrow.Author.Tests.{not-false, not-true}
 use borrow.Author.Needs.{needs}
-use Rattle.cases.proofs.RowTests.{not-true, not-false}
 use Rattle.cases.proofs.KeyLaws.{KeysTo, keys-none, keys-more, keys-stop, keys-whole}
 use Rattle.cases.proofs.validity.keys_hold.Statement.{statement}
 use Rattle.cases.proofs.validity.keys_hold.Tie as tie

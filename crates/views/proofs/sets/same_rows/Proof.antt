@@ -1,4 +1,5 @@
 -- `views::sets::same_rows` meets its contract. Assumes nothing.
+use borrow.Author.Tests.{not-false, not-true}
 use mathlib.Core.Path.{_≡_, sym, _∙_}
 use mathlib.Core.Bool.{true}
 use Prim.Native.Nat.{_-_, _≤_}
@@ -6,7 +7,7 @@ use native.Mathlib.Omega.{arith}
 use borrow.Author.Needs.{needs}
 use Rattle.meaning.specs.Evaluation.{rowTest}
 use Rattle.store.specs.Rows.{rowIn}
-use Rattle.views.proofs.Intersecting.{not-true, not-false, alike-none, alike-more, alike-stops, alike-whole}
+use Rattle.views.proofs.Intersecting.{alike-none, alike-more, alike-stops, alike-whole}
 use Rattle.views.proofs.sets.same_rows.Statement.{statement}
 use Rattle.views.proofs.sets.same_rows.Tie as tie
 
