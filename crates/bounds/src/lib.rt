@@ -1,6 +1,7 @@
 // The rule on aggregates and the ranges of expressions, on frame bytes.
 use range::Range;
 use range::Ranged;
+use slice::byte_at;
 use value::integer;
 ghost use mathlib.Core.Path.{_≡_};
 ghost use mathlib.Core.Bool.{true, _&&_};
@@ -64,13 +65,6 @@ fn verdict(next: usize, allowed: bool, within: bool) -> Tested
         allowed: allowed,
         within: within,
     }
-}
-
-// The byte at i, 0 past the end.
-fn byte_at(bytes: &[u8], i: usize) -> u8
-    ensures { λ r. ⌜ r ≡ getD (now (bytes .entry)) i 0 ⌝ }
-{
-    if i < bytes.len() { bytes[i] } else { 0 }
 }
 
 // The number at i, 0 past the end.

@@ -5,8 +5,8 @@ use mathlib.Core.List.{List, [], _∷_, _++_, map, append-assoc}
 use mathlib.Core.Option.{some, none, Option·none-ne-some}
 use Prim.Native.Nat.{ℕ, zero, suc, _+_, _-_, _≤_, _<_}
 use native.Mathlib.Omega.{arith}
-use lib.ListN.{length, getD, getElem?, drop, length-map, take-append-drop}
-use lib.Seq.{drop-drop, drop-append-add, drop-at, getD-drop}
+use lib.ListN.{length, getD, set, getElem?, drop, length-set, length-map, take-append-drop}
+use lib.Seq.{drop-drop, drop-append-add, drop-at, getD-drop, getD-set-same, getD-set-other}
 use Rattle.value.proofs.Decides.{by-test}
 use Rattle.text.specs.Answers.{pack}
 use Rattle.meaning.specs.Lists.{isPos, any}
@@ -22,7 +22,7 @@ use Rattle.rules.specs.Written.{tableBytes, keyBytes, viewBytes, goalBytes, fil
 use Rattle.rules.specs.Plans.{frameOf, PlanOf}
 use Rattle.rules.specs.declared.plan.Plan.{Plan}
 use Rattle.rules.proofs.SoundFrames.{regroup}
-use Rattle.cases.specs.Given.{FirstKey, Filled, Outlines}
+use Rattle.cases.specs.Given.{FirstKey, Filled, TablesCounted, Outlines}
 use Rattle.cases.specs.declared.outline.Outline.{Outline}
 
 -- ---- packed frames, and what stands behind them
@@ -229,6 +229,23 @@ pub filled-none : (shape : List ℕ) (tables n : ℕ) → tables ≤ n → Bare 
 filled-none shape tables n h b = record {
   some-row = λ F l s. sym (none-at (F .tables) (λ i k. sym (bound-is F i k) ∙ sym (s i) ∙ b .bare i (omega (arith, h, l, k))));
 }
+
+-- ---- numbers of rows
+
+pub counted-none : (shape counts : List ℕ) → TablesCounted shape 0 counts counts
+counted-none shape counts = record { size = refl; counted = λ t h l. absurd (omega arith) }
+
+pub counted-more : {shape counts before after : List ℕ} {n b : ℕ} → TablesCounted shape n counts before → b ≡ boundAt shape n → after ≡ set before n b
+    → TablesCounted shape (n + 1) counts after
+counted-more {shape} {counts} {before} {after} {n} {b} c e q = record {
+  size = rw q (length-set before n b ∙ c .size);
+  counted = λ t h l. rw q (by-lt t n
+      (λ _ k. getD-set-other before n t b 0 (λ z. omega arith) ∙ c .counted t k l)
+      (λ _ k. let z : t ≡ n = omega arith in rw z (getD-set-same before n b 0 (omega (arith, c .size)) ∙ e)));
+}
+
+pub counted-all : {shape counts after : List ℕ} {tables n : ℕ} → TablesCounted shape n counts after → tables ≤ n → TablesCounted shape tables counts after
+counted-all c h = record { size = c .size; counted = λ t k l. c .counted t (omega arith) l }
 
 -- ---- the outline
 

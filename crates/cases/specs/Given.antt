@@ -47,6 +47,11 @@ pub record Filled (shape : List ℕ) (tables : ℕ) (r : Bool) : Type 0 where
 pub record Outlines (p : Plan) (o : Outline) : Type 0 where
   pub given : (F : File) → Legal F → PlanOf F p → Given F (p .bytes) (p .starts) (p .shape) o
 
+-- `counts` gets the row bounds of the tables, which are their numbers of rows
+pub record TablesCounted (shape : List ℕ) (tables : ℕ) (counts counts′ : List ℕ) : Type 0 where
+  pub size : length counts′ ≡ length counts
+  pub counted : (t : ℕ) → t < tables → t < length counts → getD counts′ t 0 ≡ boundAt shape t
+
 -- ---- a database
 
 -- the tables of d stand in the work area, and `counts` has their numbers of rows

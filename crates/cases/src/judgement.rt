@@ -10,17 +10,6 @@ ghost use lib.ListN.{set};
 ghost use Rattle.cases.specs.Relations.{frameLimit};
 ghost use Rattle.cases.specs.Judgement.{SignNoted, RowsNoted, Evaluates, Verdict, Judges};
 
-// One number is set; none where there is no place for it.
-fn put_byte(bytes: &mut [u8], i: u8, b: u8)
-    ensures { λ _. ⌜ now (bytes .exit) ≡ set (now (bytes .entry)) i b ⌝ }
-{
-    let place = i as usize;
-    if bytes.len() <= place {
-        return;
-    }
-    bytes[place] = b;
-}
-
 // 1 for true, 0 for false.
 fn one_if(b: bool) -> u8
     ensures { λ r. ⌜ r ≡ cond b 1 0 ⌝ }
@@ -41,11 +30,11 @@ fn note_sign(
     requires { ⌜ at ≤ frameLimit ⌝ }
     ensures { λ _. ⌜ SignNoted (now (bytes .entry)) at (now (asked .entry)) (now (counts .entry)) (now (refuted .entry)) (now (work .entry)) v (now (refuted .exit)) (now (work .exit)) ⌝ }
 {
-    if prefix::byte_at(asked, v as usize) != 1 {
+    if slice::byte_at(asked, v as usize) != 1 {
         return;
     }
     let sign = relation::is_refuted(bytes, at, counts, refuted, work, v);
-    put_byte(refuted, v, one_if(sign));
+    slice::put_byte(refuted, v as usize, one_if(sign));
 }
 
 // The rows of view v, if they are needed, and their number.
@@ -61,11 +50,11 @@ fn note_rows(
     requires { ⌜ at ≤ frameLimit ⌝ }
     ensures { λ _. ⌜ RowsNoted (now (bytes .entry)) at (now (shape .entry)) (now (needed .entry)) (now (counts .entry)) (now (work .entry)) v (now (counts .exit)) (now (work .exit)) ⌝ }
 {
-    if prefix::byte_at(needed, v as usize) != 1 {
+    if slice::byte_at(needed, v as usize) != 1 {
         return;
     }
     let n = relation::view_rows(bytes, at, shape, counts, work, v);
-    put_byte(counts, v, n);
+    slice::put_byte(counts, v as usize, n);
 }
 
 // The views whose rows are needed or whose sign is asked, from the first to the last. `counts` has the number of rows of each relation,
@@ -98,9 +87,9 @@ fn wanted(o: Outline, counts: &[u8], refuted: &[u8]) -> bool
     ensures { λ r. ⌜ Verdict o (now (counts .entry)) (now (refuted .entry)) r ⌝ }
 {
     if o.negative {
-        return prefix::byte_at(refuted, o.goal as usize) == 1;
+        return slice::byte_at(refuted, o.goal as usize) == 1;
     }
-    0 < prefix::byte_at(counts, o.goal as usize)
+    0 < slice::byte_at(counts, o.goal as usize)
 }
 
 // Refused: valid databases alone; a database that is not valid.

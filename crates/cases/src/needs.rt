@@ -16,27 +16,16 @@ fn names(bytes: &[u8], at: usize) -> Named
     requires { ⌜ at ≤ 4294967296 ⌝ }
     ensures { λ r. ⌜ (r .at ≤ at + 2) × Names (now (bytes .entry)) at r ⌝ }
 {
-    if prefix::byte_at(bytes, at) < 5 {
+    if slice::byte_at(bytes, at) < 5 {
         return Named {
             at: at + 2,
-            count: prefix::byte_at(bytes, at + 1),
+            count: slice::byte_at(bytes, at + 1),
         };
     }
     Named {
         at: at + 1,
         count: 2,
     }
-}
-
-// A flag is set; none where there is no place for it.
-fn set_flag(flags: &mut [u8], i: u8)
-    ensures { λ _. ⌜ now (flags .exit) ≡ set (now (flags .entry)) i 1 ⌝ }
-{
-    let place = i as usize;
-    if flags.len() <= place {
-        return;
-    }
-    flags[place] = 1;
 }
 
 // The flags of the relations that `count` bytes name.
@@ -46,7 +35,8 @@ fn set_names(bytes: &[u8], at: usize, count: u8, flags: &mut [u8])
 {
     let mut i: u8 = 0;
     while i < count {
-        set_flag(flags, prefix::byte_at(bytes, at + (i as usize)));
+        let named = slice::byte_at(bytes, at + (i as usize)) as usize;
+        slice::put_byte(flags, named, 1);
         i += 1;
     }
 }
@@ -58,14 +48,14 @@ fn need_rows(bytes: &[u8], at: usize, needed: &mut [u8], asked: &[u8], v: u8)
     ensures { λ _. ⌜ NeedsRows (now (bytes .entry)) at (now (needed .entry)) (now (asked .entry)) v (now (needed .exit)) ⌝ }
 {
     let named = names(bytes, at);
-    if prefix::byte_at(needed, v as usize) == 1 {
+    if slice::byte_at(needed, v as usize) == 1 {
         set_names(bytes, named.at, named.count, needed);
         return;
     }
-    if prefix::byte_at(asked, v as usize) != 1 {
+    if slice::byte_at(asked, v as usize) != 1 {
         return;
     }
-    if 5 <= prefix::byte_at(bytes, at) {
+    if 5 <= slice::byte_at(bytes, at) {
         return;
     }
     set_names(bytes, named.at, named.count, needed);
@@ -76,10 +66,10 @@ fn need_signs(bytes: &[u8], at: usize, asked: &mut [u8], v: u8)
     requires { ⌜ at ≤ 4294967296 ⌝ }
     ensures { λ _. ⌜ NeedsSigns (now (bytes .entry)) at (now (asked .entry)) v (now (asked .exit)) ⌝ }
 {
-    if prefix::byte_at(asked, v as usize) != 1 {
+    if slice::byte_at(asked, v as usize) != 1 {
         return;
     }
-    if prefix::byte_at(bytes, at) < 5 {
+    if slice::byte_at(bytes, at) < 5 {
         return;
     }
     set_names(bytes, at + 1, 2, asked);
@@ -90,10 +80,10 @@ fn need_goal(o: Outline, needed: &mut [u8], asked: &mut [u8])
     ensures { λ _. ⌜ NeedsGoal o (now (needed .entry)) (now (asked .entry)) (now (needed .exit)) (now (asked .exit)) ⌝ }
 {
     if o.negative {
-        set_flag(asked, o.goal);
+        slice::put_byte(asked, o.goal as usize, 1);
         return;
     }
-    set_flag(needed, o.goal);
+    slice::put_byte(needed, o.goal as usize, 1);
 }
 
 // The place of a relation's frame behind its length; 0 past the last relation.

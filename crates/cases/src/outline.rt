@@ -2,7 +2,7 @@
 use rules::catalog;
 use rules::plan::Plan;
 ghost use Prim.Native.Nat.{_≤_};
-ghost use Rattle.cases.specs.Given.{Outlines, FirstKey, Filled};
+ghost use Rattle.cases.specs.Given.{Outlines, FirstKey, Filled, TablesCounted};
 
 // The counts of a plan and its goal; `foreign` is the place of the first foreign key's frame, and `filled` says that some table has
 // a row.
@@ -28,7 +28,7 @@ fn first_key(bytes: &[u8], starts: &[u32], tables: u8) -> usize
         return 0;
     }
     let at = starts[last] as usize;
-    at + (prefix::byte_at(bytes, at) as usize) + 1
+    at + (slice::byte_at(bytes, at) as usize) + 1
 }
 
 // Whether some table has a row.
@@ -43,6 +43,19 @@ fn some_row(shape: &[u8], tables: u8) -> bool
         t += 1;
     }
     false
+}
+
+// The tables' numbers of rows, each at its relation's place.
+// Refused: one row more; the first table left out.
+pub fn count_tables(shape: &[u8], tables: u8, counts: &mut [u8])
+    ensures { λ _. ⌜ TablesCounted (now (shape .entry)) tables (now (counts .entry)) (now (counts .exit)) ⌝ }
+{
+    let mut t: u8 = 0;
+    while t < tables {
+        let rows = catalog::bound_of(shape, t);
+        slice::put_byte(counts, t as usize, rows);
+        t += 1;
+    }
 }
 
 // Refused: the goal's sign turned round; a file whose tables have no rows as filled.

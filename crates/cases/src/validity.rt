@@ -62,7 +62,7 @@ pub fn keys_hold(shape: &[u8], counts: &[u8], work: &[i32], tables: u8) -> bool
 {
     let mut t: u8 = 0;
     while t < tables {
-        let rows = prefix::byte_at(counts, t as usize);
+        let rows = slice::byte_at(counts, t as usize);
         let width = catalog::width_of(shape, t);
         let mask = catalog::mask_of(shape, t);
         if !key_holds(work, t, rows, width, mask) {
@@ -92,8 +92,8 @@ fn agrees(
         if bytes.len() <= next {
             return false;
         }
-        let a = prefix::byte_at(bytes, next) as usize;
-        let b = prefix::byte_at(bytes, next + 1) as usize;
+        let a = slice::byte_at(bytes, next) as usize;
+        let b = slice::byte_at(bytes, next + 1) as usize;
         let x = store::cell(work, child as usize, i as usize, a);
         let y = store::cell(work, parent as usize, j as usize, b);
         if !x.same(y) {
@@ -133,11 +133,11 @@ fn foreign_key_holds(bytes: &[u8], at: usize, counts: &[u8], work: &[i32]) -> bo
     requires { ⌜ at ≤ length (now bytes) ⌝ }
     ensures { λ r. ⌜ ForeignHeld (now (bytes .entry)) at (now (counts .entry)) (now (work .entry)) r ⌝ }
 {
-    let child = prefix::byte_at(bytes, at + 1);
-    let parent = prefix::byte_at(bytes, at + 2);
-    let count = prefix::byte_at(bytes, at + 3);
-    let children = prefix::byte_at(counts, child as usize);
-    let parents = prefix::byte_at(counts, parent as usize);
+    let child = slice::byte_at(bytes, at + 1);
+    let parent = slice::byte_at(bytes, at + 2);
+    let count = slice::byte_at(bytes, at + 3);
+    let children = slice::byte_at(counts, child as usize);
+    let parents = slice::byte_at(counts, parent as usize);
     let mut i: u8 = 0;
     while i < children {
         if !has_parent(bytes, at + 4, count, work, child, i, parent, parents) {

@@ -1,4 +1,5 @@
 // Where each field of a frame ends, and each expression and condition in prefix form; or the number of its refusal.
+use slice::byte_at;
 ghost use mathlib.Core.Path.{_≡_};
 ghost use mathlib.Core.Bool.{cond, _&&_};
 ghost use Prim.Native.Nat.{_+_, _*_, _≤_};
@@ -23,14 +24,6 @@ fn within(x: u16, lo: u16, hi: u16) -> bool
     ensures { λ r. ⌜ r ≡ leb lo x && leb x hi ⌝ }
 {
     lo <= x && x <= hi
-}
-
-// The byte at a position, 0 past the end.
-// Refused: 1 past the end; the first byte.
-pub fn byte_at(frame: &[u8], at: usize) -> u8
-    ensures { λ r. ⌜ r ≡ getD (now (frame .entry)) at 0 ⌝ }
-{
-    if at < frame.len() { frame[at] } else { 0 }
 }
 
 // Two bytes, high byte first, 0 for each past the end.

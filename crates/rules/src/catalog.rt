@@ -1,6 +1,7 @@
 // The checker's arrays: what is known of each relation, and what a frame without fault adds.
-use super::fields::byte_at;
 use range::Range;
+use slice::byte_at;
+use slice::put_byte;
 use value::domain::Domain;
 use value::integer;
 ghost use mathlib.Core.Path.{_≡_};
@@ -85,14 +86,6 @@ pub fn put_range(ends: &mut [i32], r: u8, c: u8, range: Range)
     let at = place_of(r, c);
     put_end(ends, at, range.lo);
     put_end(ends, at + 1, range.hi);
-}
-
-fn put_byte(shape: &mut [u8], at: usize, b: u8)
-    ensures { λ _. ⌜ now (shape .exit) ≡ set (now (shape .entry)) at b ⌝ }
-{
-    if at < shape.len() {
-        shape[at] = b;
-    }
 }
 
 // The four bytes of a relation.

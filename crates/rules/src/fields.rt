@@ -13,14 +13,6 @@ pub fn first_of(m: u8, n: u8) -> u8
     if m == 0 { n } else { m }
 }
 
-// The byte at a place; 0 past the end.
-// Refused: 1 past the end; the first byte.
-pub fn byte_at(frame: &[u8], at: usize) -> u8
-    ensures { λ r. ⌜ r ≡ getD (now (frame .entry)) at 0 ⌝ }
-{
-    if at < frame.len() { frame[at] } else { 0 }
-}
-
 // A byte from lo to hi, else the fault `number`.
 // Refused: a byte below lo kept; a byte above lo refused.
 pub fn between(frame: &[u8], at: usize, number: u8, lo: u8, hi: u8) -> u8

@@ -25,7 +25,7 @@ fn known(shape: &[u8], frame: &[u8], at: usize, part: usize) -> u8
     requires { ⌜ part < 4 ⌝ }
     ensures { λ r. ⌜ r ≡ getD (now (shape .entry)) (4 * getD (now (frame .entry)) at 0 + part) 0 ⌝ }
 {
-    fields::byte_at(shape, 4 * (fields::byte_at(frame, at) as usize) + part)
+    slice::byte_at(shape, 4 * (slice::byte_at(frame, at) as usize) + part)
 }
 
 // ---- 01 table
@@ -48,10 +48,7 @@ fn number_at(frame: &[u8], at: usize) -> i32
     requires { ⌜ at < 65540 ⌝ }
     ensures { λ r. ⌜ r ≡ bytesZ (getD (now (frame .entry)) at 0) (getD (now (frame .entry)) (at + 1) 0) ⌝ }
 {
-    integer::widen16(integer::from_bytes(
-        fields::byte_at(frame, at),
-        fields::byte_at(frame, at + 1),
-    ))
+    integer::widen16(integer::from_bytes(slice::byte_at(frame, at), slice::byte_at(frame, at + 1)))
 }
 
 // The lo and hi of a column.
@@ -88,7 +85,7 @@ fn columns_fault(frame: &[u8], n: u8) -> u8
 pub fn table_fault(frame: &[u8]) -> u8
     ensures { λ r. ⌜ TableFault (now (frame .entry)) r ⌝ }
 {
-    let n = fields::byte_at(frame, 2);
+    let n = slice::byte_at(frame, 2);
     let rows = fields::between(frame, 1, 5, 0, 8);
     let columns = fields::between(frame, 2, 5, 1, 4);
     let mask = fields::below(frame, 3, 5, masks_of(n));
@@ -146,7 +143,7 @@ fn parents_of(frame: &[u8], i: u8, n: u8) -> u8
     let mut at = 4;
     let mut left = n;
     while 0 < left {
-        let one = one_if_same(fields::byte_at(frame, at + 1), i);
+        let one = one_if_same(slice::byte_at(frame, at + 1), i);
         count = count + one;
         at = at + 2;
         left = left - 1;
@@ -188,7 +185,7 @@ fn pairing_fault(frame: &[u8], n: u8, width: u8, mask: u8) -> u8
 pub fn key_fault(frame: &[u8], shape: &[u8], tables: u8) -> u8
     ensures { λ r. ⌜ KeyFault (now (frame .entry)) (now (shape .entry)) tables r ⌝ }
 {
-    let n = fields::byte_at(frame, 3);
+    let n = slice::byte_at(frame, 3);
     let c = known(shape, frame, 1, WIDTH);
     let p = known(shape, frame, 2, WIDTH);
     let mask = known(shape, frame, 2, MASK);

@@ -84,7 +84,7 @@ fn start_of(packed: &[u8], n: u16) -> u32
     let mut at: u32 = 0;
     let mut left = n;
     while 0 < left {
-        at = at + (fields::byte_at(packed, at as usize) as u32) + 1;
+        at = at + (slice::byte_at(packed, at as usize) as u32) + 1;
         left = left - 1;
     }
     at

@@ -93,8 +93,8 @@ fn union_step(frame: &[u8], shape: &mut [u8], ends: &mut [i32], s: State) -> Ste
             state: s,
         };
     }
-    let left = fields::byte_at(frame, 1);
-    let right = fields::byte_at(frame, 2);
+    let left = slice::byte_at(frame, 1);
+    let right = slice::byte_at(frame, 2);
     catalog::enter_union(left, right, shape, ends, s.relations);
     Step {
         fault: 0,
@@ -112,8 +112,8 @@ fn intersection_step(frame: &[u8], shape: &mut [u8], ends: &mut [i32], s: State)
             state: s,
         };
     }
-    let left = fields::byte_at(frame, 1);
-    let right = fields::byte_at(frame, 2);
+    let left = slice::byte_at(frame, 1);
+    let right = slice::byte_at(frame, 2);
     catalog::enter_intersection(left, right, shape, ends, s.relations);
     Step {
         fault: 0,
@@ -125,8 +125,8 @@ fn goal_step(frame: &[u8], shape: &[u8], ends: &[i32], s: State) -> Step
     ensures { λ r. ⌜ Turned 7 (now (frame .entry)) s (now (shape .entry)) (now (ends .entry)) (now (shape .entry)) (now (ends .entry)) r ⌝ }
 {
     let fault = fixed::goal_fault(frame, s.tables, s.relations);
-    let view = fields::byte_at(frame, 1);
-    let sign = fields::byte_at(frame, 2);
+    let view = slice::byte_at(frame, 1);
+    let sign = slice::byte_at(frame, 2);
     Step {
         fault: fault,
         state: state::with_goal(s, view, sign),

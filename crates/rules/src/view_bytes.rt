@@ -41,7 +41,7 @@ fn relations(frame: &[u8], n: u8, count: u8) -> u8
 fn from_list(frame: &[u8], count: u8) -> u8
     ensures { λ r. ⌜ r ≡ faultAt (now (frame .entry)) 1 (fromsUnder count) ⌝ }
 {
-    let n = fields::byte_at(frame, 1);
+    let n = slice::byte_at(frame, 1);
     fields::first_of(
         fields::between(frame, 1, 5, 1, 3),
         relations(frame, n, count),
@@ -52,7 +52,7 @@ fn from_list(frame: &[u8], count: u8) -> u8
 fn width(frame: &[u8], shape: &[u8], at: usize) -> u8
     ensures { λ r. ⌜ r ≡ widthAt (now (shape .entry)) (getD (now (frame .entry)) at 0) ⌝ }
 {
-    fields::byte_at(shape, 4 * wide(fields::byte_at(frame, at)) + 1)
+    slice::byte_at(shape, 4 * wide(slice::byte_at(frame, at)) + 1)
 }
 
 // The number of columns of each from item; what stands behind the last from item does not count.
@@ -139,9 +139,9 @@ fn where_groups(frame: &[u8], at: usize, cols: &[u8], g: u8, m: u8) -> u8
 pub fn basic_bytes(frame: &[u8], shape: &[u8], count: u8) -> u8
     ensures { λ r. ⌜ BasicBytes (now (frame .entry)) (now (shape .entry)) count r ⌝ }
 {
-    let n = fields::byte_at(frame, 1);
+    let n = slice::byte_at(frame, 1);
     let at = wide(n) + 2;
-    let m = fields::byte_at(frame, at);
+    let m = slice::byte_at(frame, at);
     let cols = widths(frame, shape);
     let k = items(n);
     let behind = condition_select(frame, at + 1, &cols[..k], m);
@@ -154,10 +154,10 @@ pub fn basic_bytes(frame: &[u8], shape: &[u8], count: u8) -> u8
 pub fn grouped_bytes(frame: &[u8], shape: &[u8], count: u8) -> u8
     ensures { λ r. ⌜ GroupedBytes (now (frame .entry)) (now (shape .entry)) count r ⌝ }
 {
-    let n = fields::byte_at(frame, 1);
+    let n = slice::byte_at(frame, 1);
     let at = wide(n) + 2;
-    let g = fields::byte_at(frame, at);
-    let m = fields::byte_at(frame, at + 1);
+    let g = slice::byte_at(frame, at);
+    let m = slice::byte_at(frame, at + 1);
     let cols = widths(frame, shape);
     let k = items(n);
     let behind = where_groups(frame, at + 1 + 1, &cols[..k], g, m);

@@ -173,14 +173,14 @@ fn none() -> Ruled {
 pub fn basic_rules(frame: &[u8], shape: &[u8], ends: &mut [i32], r: u8) -> Ruled
     ensures { λ a. ⌜ Rules basicFrame (now (frame .entry)) r (now (shape .entry)) (now (ends .entry)) (now (ends .exit)) a ⌝ }
 {
-    let end = (fields::byte_at(frame, 1) as usize) + 2;
+    let end = (slice::byte_at(frame, 1) as usize) + 2;
     if frame.len() < end {
         return none();
     }
     let items = &frame[2..end];
     let rule = plain(product_bound(items, shape));
     let w = bounds::condition(frame, end + 1, items, shape, ends, rule);
-    let n = fields::byte_at(frame, end);
+    let n = slice::byte_at(frame, end);
     tail(frame, w, n, items, shape, ends, r, rule)
 }
 
@@ -188,14 +188,14 @@ pub fn basic_rules(frame: &[u8], shape: &[u8], ends: &mut [i32], r: u8) -> Ruled
 pub fn grouped_rules(frame: &[u8], shape: &[u8], ends: &mut [i32], r: u8) -> Ruled
     ensures { λ a. ⌜ Rules groupedFrame (now (frame .entry)) r (now (shape .entry)) (now (ends .entry)) (now (ends .exit)) a ⌝ }
 {
-    let end = (fields::byte_at(frame, 1) as usize) + 2;
+    let end = (slice::byte_at(frame, 1) as usize) + 2;
     if frame.len() < end {
         return none();
     }
     let items = &frame[2..end];
     let bound = product_bound(items, shape);
     let w = bounds::condition(frame, end + 2, items, shape, ends, plain(bound));
-    let g = fields::byte_at(frame, end);
+    let g = slice::byte_at(frame, end);
     let places = inside(frame, w.next);
     let rule = Rule {
         bound: bound,
@@ -204,6 +204,6 @@ pub fn grouped_rules(frame: &[u8], shape: &[u8], ends: &mut [i32], r: u8) -> Rul
         count: g,
     };
     let h = bounds::condition(frame, places + 2 * (g as usize), items, shape, ends, rule);
-    let n = fields::byte_at(frame, end + 1);
+    let n = slice::byte_at(frame, end + 1);
     tail(frame, both(w, h), n, items, shape, ends, r, rule)
 }

@@ -18,7 +18,7 @@ use Rattle.bounds.proofs.two.Reads as two
 use Rattle.bounds.proofs.two.Kinds as two-kinds
 use Rattle.bounds.proofs.+condition+expression+two.Lts-two as two-lts
 use Rattle.bounds.proofs.aggregated.Reads as aggregated-reads
-use Rattle.bounds.proofs.byte_at.Reads as byte-at-reads
+use Rattle.slice.proofs.byte_at.Reads as byte-at-reads
 use Rattle.bounds.proofs.chosen.Reads as chosen-reads
 use Rattle.bounds.proofs.column.Reads as column-reads
 use Rattle.bounds.proofs.constant.Reads as constant-reads

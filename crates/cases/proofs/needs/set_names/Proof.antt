@@ -27,8 +27,11 @@ add-byte-at c = search needs
 byte-at-requires : tie.Need-byte-at-requires Inv-loop μ-loop
 byte-at-requires c κs = search needs
 
-set-flag-requires : tie.Need-set-flag-requires Inv-loop μ-loop
-set-flag-requires c κs = search needs
+cast-named : tie.Need-cast-named Inv-loop μ-loop
+cast-named c = search needs
+
+put-byte-requires : tie.Need-put-byte-requires Inv-loop μ-loop
+put-byte-requires c κs = search needs
 
 add-i : tie.Need-add-i Inv-loop μ-loop
 add-i c = search needs
@@ -37,7 +40,7 @@ loop-less : tie.Need-loop-less Inv-loop μ-loop
 loop-less c = omega arith
 
 loop-again : tie.Need-loop-again Inv-loop μ-loop
-loop-again c = (omega arith, search needs, names-more _ _ _ _ _ _ _ (c .before .before .before .before .before .before .loop .inv .2) (c .before .before .before .byte-at .ensures) (c .before .before .set-flag .ensures))
+loop-again c = (omega arith, search needs, names-more _ _ _ _ _ _ _ (c .before .before .before .before .before .before .loop .inv .2) (c .before .before .before .before .byte-at .ensures) (c .before .before .put-byte .ensures))
 
 same-length : tie.Need-same-length Inv-loop μ-loop
 same-length c = c .before .loop .inv .1
@@ -55,7 +58,8 @@ set-names-spec =
     cast-byte-at
     add-byte-at
     byte-at-requires
-    set-flag-requires
+    cast-named
+    put-byte-requires
     add-i
     loop-less
     loop-again

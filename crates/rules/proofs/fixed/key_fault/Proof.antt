@@ -8,7 +8,7 @@ use Rattle.rules.proofs.fixed.key_fault.Reads as reads
 use Rattle.rules.proofs.fixed.key_fault.Lts as lts
 use Rattle.rules.proofs.fields.below.Reads as below-reads
 use Rattle.rules.proofs.fields.between.Reads as between-reads
-use Rattle.rules.proofs.fields.byte_at.Reads as byte-at-reads
+use Rattle.slice.proofs.byte_at.Reads as byte-at-reads
 use Rattle.rules.proofs.fields.ends_at.Reads as ends-at-reads
 use Rattle.rules.proofs.fields.first_of.Reads as first-of-reads
 use Rattle.rules.proofs.fixed.known.Reads as known-reads

@@ -6,7 +6,7 @@ use Rattle.rules.proofs.fixed.known.Statement.{statement}
 use Rattle.rules.proofs.fixed.known.Tie as tie
 use Rattle.rules.proofs.fixed.known.Reads as reads
 use Rattle.rules.proofs.fixed.known.Lts as lts
-use Rattle.rules.proofs.fields.byte_at.Reads as byte-at-reads
+use Rattle.slice.proofs.byte_at.Reads as byte-at-reads
 
 -- src/fixed.rt:28:33
 byte-at-requires : tie.Need-byte-at-requires

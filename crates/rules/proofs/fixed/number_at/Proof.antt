@@ -7,7 +7,7 @@ use Rattle.rules.proofs.fixed.number_at.Statement.{statement}
 use Rattle.rules.proofs.fixed.number_at.Tie as tie
 use Rattle.rules.proofs.fixed.number_at.Reads as reads
 use Rattle.rules.proofs.fixed.number_at.Lts as lts
-use Rattle.rules.proofs.fields.byte_at.Reads as byte-at-reads
+use Rattle.slice.proofs.byte_at.Reads as byte-at-reads
 use Rattle.value.proofs.integer.from_bytes.Reads as from-bytes-reads
 use Rattle.value.proofs.integer.widen16.Reads as widen16-reads
 

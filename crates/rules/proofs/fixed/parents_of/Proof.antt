@@ -9,7 +9,7 @@ use Rattle.rules.proofs.fixed.parents_of.Statement.{statement}
 use Rattle.rules.proofs.fixed.parents_of.Tie as tie
 use Rattle.rules.proofs.fixed.parents_of.Reads as reads
 use Rattle.rules.proofs.fixed.parents_of.Lts as lts
-use Rattle.rules.proofs.fields.byte_at.Reads as byte-at-reads
+use Rattle.slice.proofs.byte_at.Reads as byte-at-reads
 use Rattle.rules.proofs.fixed.one_if_same.Reads as one-if-same-reads
 
 abbrev Inv-loop : tie.InvT-loop

@@ -1,9 +1,9 @@
 -- `views::sets::same_rows` meets its contract. Assumes nothing.
-use borrow.Author.Tests.{not-false, not-true}
 use mathlib.Core.Path.{_≡_, sym, _∙_}
 use mathlib.Core.Bool.{true}
 use Prim.Native.Nat.{_-_, _≤_}
 use native.Mathlib.Omega.{arith}
+use borrow.Author.Tests.{not-false, not-true}
 use borrow.Author.Needs.{needs}
 use Rattle.meaning.specs.Evaluation.{rowTest}
 use Rattle.store.specs.Rows.{rowIn}

@@ -1,9 +1,9 @@
--- `cases::judgement::put_byte` meets its contract. Assumes nothing.
+-- `slice::put_byte` meets its contract. Assumes nothing.
 use mathlib.Core.Path.{sym}
 use lib.Seq.{set-out}
 use borrow.Author.Needs.{needs}
-use Rattle.cases.proofs.judgement.put_byte.Statement.{statement}
-use Rattle.cases.proofs.judgement.put_byte.Tie as tie
+use Rattle.slice.proofs.put_byte.Statement.{statement}
+use Rattle.slice.proofs.put_byte.Tie as tie
 
 returns : tie.Need-returns
 returns c = sym (set-out _ _ _ (c .if1 .taken))
