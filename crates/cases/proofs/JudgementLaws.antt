@@ -76,7 +76,7 @@ pub record Turned (bytes starts shape needed asked : List ℕ) (o : Outline) (co
   pub first : o .tables ≤ v
   pub kept : TablesKept (o .tables) counts work counts′ work′
   pub refuted-size : length refuted′ ≡ length refuted
-  pub known : {F : File} {d : Database} → Given F bytes starts shape o → length starts ≡ 16 → Ready F d needed asked counts refuted work
+  pub known : {F : File} {d : Database} → Given F bytes starts shape o → Ready F d needed asked counts refuted work
       → Known F d needed asked counts′ refuted′ work′ v
 
 kept-same : (tables : ℕ) (counts : List ℕ) (work : List ℤ) → TablesKept tables counts work counts work
@@ -99,7 +99,7 @@ module _ {bytes starts shape needed asked : List ℕ} {o : Outline} {counts refu
     first = omega arith;
     kept = kept-same (o .tables) counts work;
     refuted-size = refl;
-    known = λ G s R. tables-known G R (o .tables) (omega (arith, G .tables));
+    known = λ G R. tables-known G R (o .tables) (omega (arith, G .tables));
   }
 
   pub turned-more : {counts₁ refuted₁ : List ℕ} {work₁ : List ℤ} {v at : ℕ} → Turned bytes starts shape needed asked o counts refuted work counts₁ refuted₁ work₁ v
@@ -116,11 +116,11 @@ module _ {bytes starts shape needed asked : List ℕ} {o : Outline} {counts refu
       count = λ t h. N .others t (λ e. omega (arith, T .first)) ∙ T .kept .count t h;
     };
     refuted-size = S .size ∙ T .refuted-size;
-    known = λ {F} {d} G s R.
+    known = λ {F} {d} G R.
         let n : v + 1 ≡ suc v = omega arith in
         let few : v < 16 = omega (arith, G .legal .relationCount, G .relations) in
         rw n (turn-known (G .legal) (R .covers) (R .shaped) G (omega (arith, R .whole, T .kept .size)) (T .kept .counts-size ∙ R .counts-size)
-        (T .refuted-size ∙ R .refuted-size) v at (omega (arith, T .first, G .tables)) (omega (arith, G .relations)) (here (omega arith)) (T .known G s R) S N);
+        (T .refuted-size ∙ R .refuted-size) v at (omega (arith, T .first, G .tables)) (omega (arith, G .relations)) (here (omega (arith, G .starts-size))) (T .known G R) S N);
   }
 
   pub turned-all : {counts₁ refuted₁ : List ℕ} {work₁ : List ℤ} {v : ℕ} → Turned bytes starts shape needed asked o counts refuted work counts₁ refuted₁ work₁ v
@@ -128,7 +128,7 @@ module _ {bytes starts shape needed asked : List ℕ} {o : Outline} {counts refu
   turned-all {counts₁} {refuted₁} {work₁} {v} T h = record {
     kept = T .kept;
     refuted-size = T .refuted-size;
-    known = λ {F} {d} G s R. let K = T .known G s R in record {
+    known = λ {F} {d} G R. let K = T .known G R in record {
       rows-known = λ i l f. K .rows-known i (omega (arith, G .relations)) f;
       signs-known = λ i t l f. K .signs-known i t (omega (arith, G .relations)) f;
     };
@@ -179,7 +179,7 @@ module _ {bytes starts shape needed asked : List ℕ} {o : Outline} {counts refu
   judges-empty h = record {
     kept = kept-same (o .tables) counts work;
     refuted-size = refl;
-    case = λ F d G s R. empty F d G R;
+    case = λ F d G R. empty F d G R;
   }
     where
       empty : (F : File) (d : Database) → Given F bytes starts shape o → Ready F d needed asked counts refuted work → false ≡ isCase F (F .goal) d
@@ -189,7 +189,7 @@ module _ {bytes starts shape needed asked : List ℕ} {o : Outline} {counts refu
   judges-invalid ok h = record {
     kept = kept-same (o .tables) counts work;
     refuted-size = refl;
-    case = λ F d G s R. not-valid F d (sym (ok .is-valid F d starts G (R .shaped) (R .tables)) ∙ h);
+    case = λ F d G R. not-valid F d (sym (ok .is-valid F d starts G (R .shaped) (R .tables)) ∙ h);
   }
 
   pub judges-valid : {b r : Bool} {counts′ refuted′ : List ℕ} {work′ : List ℤ} → o .filled ≡ true → Validates bytes shape o counts work b → b ≡ true
@@ -198,9 +198,9 @@ module _ {bytes starts shape needed asked : List ℕ} {o : Outline} {counts refu
   judges-valid {r = r} {counts′} {refuted′} {work′} f ok h E X = record {
     kept = E .kept;
     refuted-size = E .refuted-size;
-    case = λ F d G s R.
+    case = λ F d G R.
         is-wanted F d (sym (ok .is-valid F d starts G (R .shaped) (R .tables)) ∙ h) (filled-rows (R .shaped) ∙ sym (G .filled) ∙ f)
-        (wanted-is F d G R (E .known G s R));
+        (wanted-is F d G R (E .known G R));
   }
     where
       wanted-is : (F : File) (d : Database) → Given F bytes starts shape o → Ready F d needed asked counts refuted work

@@ -16,3 +16,4 @@ pub mod SignLaws
 pub mod FileLaws
 pub mod Turns
 pub mod JudgementLaws
+pub mod Preparing

@@ -159,7 +159,7 @@ pub record From (F : File) (v : ℕ) (needed asked : List ℕ) : Type 0 where
   pub signs : (u : ℕ) (q : View) → v ≤ u → query (length (F .tables)) F u ≡ some q → Flag asked u → Asks needed asked q
 
 pub record Reached (bytes starts : List ℕ) (o : Outline) (v : ℕ) (needed asked : List ℕ) : Type 0 where
-  pub from : (F : File) (shape : List ℕ) → Given F bytes starts shape o → length starts ≡ 16 → length needed ≡ 16 → length asked ≡ 16
+  pub from : (F : File) (shape : List ℕ) → Given F bytes starts shape o → length needed ≡ 16 → length asked ≡ 16
       → From F v needed asked
 
 asks-more : {needed needed′ asked asked′ : List ℕ} → More needed needed′ → More asked asked′ → (q : View) → Asks needed asked q
@@ -192,7 +192,7 @@ earlier-of F l = stacked F (rules F (legal-wellFormed F l) .earlier-views)
 pub reached-goal : {bytes starts : List ℕ} {o : Outline} {needed asked needed′ asked′ : List ℕ} → NeedsGoal o needed asked needed′ asked′
     → Reached bytes starts o (o .relations) needed′ asked′
 reached-goal {bytes} {starts} {o} {needed} {asked} {needed′} {asked′} g = record {
-  from = λ F shape G s n a.
+  from = λ F shape G n a.
       let past : (u : ℕ) (q : View) → o .relations ≤ u → query (length (F .tables)) F u ≡ some q → ⊥ =
       λ u q h e. let x = query-split (length (F .tables)) F u q e in omega (arith, x .2, h, G .relations) in
       let below : o .goal < 16 = omega (arith, G .goal, G .legal .goal .before, G .legal .relationCount) in
@@ -206,7 +206,7 @@ reached-goal {bytes} {starts} {o} {needed} {asked} {needed′} {asked′} g = re
 module _ {bytes starts : List ℕ} {o : Outline} {v : ℕ} {needed needed′ asked asked′ : List ℕ} {at : ℕ} (h : o .tables < v) (l : v ≤ o .relations)
     (r : Reached bytes starts o v needed asked) (place : v - 1 < length starts → at ≡ getD starts (v - 1) 0 + 1)
     (x : NeedsRows bytes at needed asked (v - 1) needed′) (y : NeedsSigns bytes at asked (v - 1) asked′) where
-  module _ (F : File) (shape : List ℕ) (G : Given F bytes starts shape o) (s : length starts ≡ 16) (n : length needed′ ≡ 16) (a : length asked′ ≡ 16) where
+  module _ (F : File) (shape : List ℕ) (G : Given F bytes starts shape o) (n : length needed′ ≡ 16) (a : length asked′ ≡ 16) where
     few : v - 1 < 16
     few = omega (arith, h, l, G .relations, G .legal .relationCount)
 
@@ -215,8 +215,8 @@ module _ {bytes starts : List ℕ} {o : Outline} {v : ℕ} {needed needed′ ask
         → From F (v - 1) needed′ asked′
     turn-of q₀ rest here frame =
         let T = length (F .tables) in
-        let old : From F v needed asked = r .from F shape G s (sym (x .more .size) ∙ n) (sym (y .more .size) ∙ a) in
-        let e : drop at bytes ≡ viewBytes q₀ ++ rest = ap (λ i. drop i bytes) (place (omega (arith, few, s))) ∙ frame in
+        let old : From F v needed asked = r .from F shape G (sym (x .more .size) ∙ n) (sym (y .more .size) ∙ a) in
+        let e : drop at bytes ≡ viewBytes q₀ ++ rest = ap (λ i. drop i bytes) (place (omega (arith, few, G .starts-size))) ∙ frame in
         let below : All (λ i. i < v - 1) (names q₀) = earlier-of F (G .legal) .earlier (v - 1) q₀ here in
         let in-needed : All (λ i. i < length needed) (names q₀) = all-map (λ i b. omega (arith, b, few, n, x .more .size)) below in
         let in-asked : All (λ i. i < length asked) (names q₀) = all-map (λ i b. omega (arith, b, few, a, y .more .size)) below in
@@ -259,8 +259,8 @@ pub needs-all : {bytes starts : List ℕ} {o : Outline} {v : ℕ} {needed₀ ask
 needs-all {bytes} {starts} {o} {v} {needed₀} {asked₀} {needed} {asked} h n a r = record {
   needed-size = n;
   asked-size = a;
-  covers = λ F shape G s x y.
-      let f = r .from F shape G s (n ∙ x) (a ∙ y) in
+  covers = λ F shape G x y.
+      let f = r .from F shape G (n ∙ x) (a ∙ y) in
       record {
         goal = f .goal;
         rows = λ u q e k. f .rows u q (below F G u q e) e k;

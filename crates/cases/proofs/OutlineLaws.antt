@@ -189,7 +189,7 @@ key-behind bytes starts tables b n e = record {
 
 -- ---- tables with rows
 
-bound-is : (F : File) (i : ℕ) → i < length (F .tables) → schema (schemas F) i .bound ≡ tableAt (F .tables) i .rows
+pub bound-is : (F : File) (i : ℕ) → i < length (F .tables) → schema (schemas F) i .bound ≡ tableAt (F .tables) i .rows
 bound-is F i h =
     let l : i < length (map tableSchema (F .tables)) = omega (arith, h, length-map (F .tables) tableSchema) in
     ap (λ (s : Schema). s .bound) (stack-keeps viewSchema noSchema (F .views) (map tableSchema (F .tables)) i l
@@ -262,7 +262,9 @@ outlined p o s t k r g n f l = record {
     negative = n ∙ P .negative;
     views = view-there F p P;
     foreign = keys-there F p P (o .foreign) s (omega (arith, L .relationCount)) f;
+    starts-size = s;
     widths = P .widths;
+    bounds = P .bounds;
     masks = P .masks;
     filled = l .some-row F (sym (P .tables)) (P .bounds);
   };

@@ -32,7 +32,9 @@ pub record Given (F : File) (bytes starts shape : List ℕ) (o : Outline) : Type
   -- each view's frame stands behind the place of its length
   pub views : (v : ℕ) (q : View) → query (length (F .tables)) F v ≡ some q → (rest : List ℕ) × (drop (getD starts v 0 + 1) bytes ≡ viewBytes q ++ rest)
   pub foreign : (rest : List ℕ) × (drop (o .foreign) bytes ≡ pack (map keyBytes (F .keys)) ++ rest)
+  pub starts-size : length starts ≡ 16
   pub widths : (i : ℕ) → widthAt shape i ≡ length (schema (schemas F) i .ranges)
+  pub bounds : (i : ℕ) → boundAt shape i ≡ schema (schemas F) i .bound
   pub masks : (i : ℕ) → i < length (F .tables) → maskAt shape i ≡ maskOf (tableAt (F .tables) i .key)
   -- "some table has a row"
   pub filled : o .filled ≡ any (λ t. isPos (t .rows)) (F .tables)

@@ -63,7 +63,7 @@ pub record TablesKept (tables : ℕ) (counts : List ℕ) (work : List ℤ) (coun
 pub record Evaluates (bytes starts shape needed asked : List ℕ) (o : Outline) (counts refuted : List ℕ) (work : List ℤ) (counts′ refuted′ : List ℕ) (work′ : List ℤ) : Type 0 where
   pub kept : TablesKept (o .tables) counts work counts′ work′
   pub refuted-size : length refuted′ ≡ length refuted
-  pub known : {F : File} {d : Database} → Given F bytes starts shape o → length starts ≡ 16 → Ready F d needed asked counts refuted work
+  pub known : {F : File} {d : Database} → Given F bytes starts shape o → Ready F d needed asked counts refuted work
       → Known F d needed asked counts′ refuted′ work′ (length (F .tables) + length (F .views))
 
 -- ---- the case
@@ -76,4 +76,4 @@ pub record Verdict (o : Outline) (counts refuted : List ℕ) (r : Bool) : Type 0
 pub record Judges (bytes starts shape needed asked : List ℕ) (o : Outline) (counts refuted : List ℕ) (work : List ℤ) (r : Bool) (counts′ refuted′ : List ℕ) (work′ : List ℤ) : Type 0 where
   pub kept : TablesKept (o .tables) counts work counts′ work′
   pub refuted-size : length refuted′ ≡ length refuted
-  pub case : (F : File) (d : Database) → Given F bytes starts shape o → length starts ≡ 16 → Ready F d needed asked counts refuted work → r ≡ isCase F (F .goal) d
+  pub case : (F : File) (d : Database) → Given F bytes starts shape o → Ready F d needed asked counts refuted work → r ≡ isCase F (F .goal) d

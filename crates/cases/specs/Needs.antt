@@ -85,5 +85,5 @@ pub record NeedsGoal (o : Outline) (needed asked needed′ asked′ : List ℕ) 
 pub record NeedsOf (bytes starts : List ℕ) (o : Outline) (needed asked needed′ asked′ : List ℕ) : Type 0 where
   pub needed-size : length needed′ ≡ length needed
   pub asked-size : length asked′ ≡ length asked
-  pub covers : (F : File) (shape : List ℕ) → Given F bytes starts shape o → length starts ≡ 16 → length needed ≡ 16 → length asked ≡ 16
+  pub covers : (F : File) (shape : List ℕ) → Given F bytes starts shape o → length needed ≡ 16 → length asked ≡ 16
       → Covers F needed′ asked′

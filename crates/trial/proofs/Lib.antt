@@ -1,0 +1,2 @@
+-- Laws of a trial.
+pub mod TrialLaws

@@ -1,0 +1,73 @@
+// For tests: one database of a text, evaluated.
+use cases::judgement;
+use cases::needs;
+use cases::outline;
+use cases::outline::Outline;
+use rules::plan;
+ghost use Rattle.rules.specs.FileOf.{fileOf};
+ghost use Rattle.trial.specs.Tried.{EveryRelation, Tried};
+
+// Whether the database is a case; then every relation is evaluated.
+fn every_relation(
+    bytes: &[u8],
+    starts: &[u32],
+    shape: &[u8],
+    o: Outline,
+    counts: &mut [u8],
+    work: &mut [i32],
+) -> bool
+    ensures { λ r. ⌜ EveryRelation (now (bytes .entry)) (now (starts .entry)) (now (shape .entry)) o (now (counts .entry)) (now (work .entry)) r (now (counts .exit)) (now (work .exit)) ⌝ }
+{
+    outline::count_tables(shape, o.tables, counts);
+    let mut needed = [0u8; 16];
+    let mut asked = [0u8; 16];
+    needs::needs_of(bytes, starts, o, &mut needed, &mut asked);
+    let mut refuted = [0u8; 16];
+    let case = judgement::is_case(
+        bytes,
+        starts,
+        shape,
+        &needed,
+        &asked,
+        o,
+        counts,
+        &mut refuted,
+        work,
+    );
+    let all = [1u8; 16];
+    judgement::evaluate(
+        bytes,
+        starts,
+        shape,
+        &all,
+        &all,
+        o,
+        counts,
+        &mut refuted,
+        work,
+    );
+    case
+}
+
+// The tables of the database stand in the work area, each row in its relation's stretch. For a text that is refused, the number of its
+// refusal in the upper 16 bits and the line in the lower; else 1 for a case and 0 for none. Then the work area has the rows of every
+// relation, and `counts` their numbers.
+// Refused: 2 for a case; only the relations that the goal needs.
+#[no_mangle]
+pub extern "C" fn sakthveim_evaluate(text: &[u8], counts: &mut [u8], work: &mut [i32]) -> u32
+    ensures { λ r. ⌜ Tried (fileOf (now (text .entry))) (now (counts .entry)) (now (work .entry)) r (now (counts .exit)) (now (work .exit)) ⌝ }
+{
+    let p = plan::check(text);
+    if p.number != 0 {
+        return (p.number as u32) * 65536 + (p.line as u32);
+    }
+    let bytes = p.bytes;
+    let starts = p.starts;
+    let shape = p.shape;
+    let o = outline::outline_of(p);
+    if every_relation(&bytes, &starts, &shape, o, counts, work) {
+        1
+    } else {
+        0
+    }
+}
