@@ -72,6 +72,12 @@ drop-element f [] more k x e = absurd (Option·none-ne-some x e)
 drop-element f (y ∷ xs) more zero x e = let p : y ≡ x = cc in (map f xs ++ more, ap (λ z. f z ∷ map f xs ++ more) p)
 drop-element f (y ∷ xs) more (suc k) x e = drop-element f xs more k x e
 
+drop-mapped : {A : Type 0} (f : A → List ℕ) (d : A) (xs : List A) (ys : List (List ℕ)) (t : ℕ) → t < length xs
+    → (more : List (List ℕ)) × (drop t (map f xs ++ ys) ≡ f (getD xs t d) ∷ more)
+drop-mapped f d [] ys t h = absurd (omega arith)
+drop-mapped f d (x ∷ xs) ys zero h = (map f xs ++ ys, refl)
+drop-mapped f d (x ∷ xs) ys (suc t) h = drop-mapped f d xs ys t (omega arith)
+
 -- the last element
 drop-last : {A B : Type 0} (f : A → B) (xs : List A) (more : List B) (t : ℕ) → length xs ≡ t + 1 → (x : A) × (drop t (map f xs ++ more) ≡ f x ∷ more)
 drop-last f [] more t e = absurd (omega arith)
@@ -109,6 +115,14 @@ module _ (F : File) where
             ∙ drop-append-add T behindTables (length K + n) ∙ drop-append-add K behindKeys n ∙ d)),
       )
 
+  -- the frames from a table's on
+  table-frames : (t : ℕ) → t < length (F .tables)
+      → (more : List (List ℕ)) × (drop (frameOf (length (F .tables)) (length (F .keys)) t) (fileFrames F) ≡ tableBytes (tableAt (F .tables) t) ∷ more)
+  unfolding frameOf
+  table-frames t h =
+      let (more, d) = drop-mapped tableBytes (record { rows = 0; columns = []; key = [] }) (F .tables) behindTables t h in
+      (more, by-lt t (length (F .tables)) (λ b k. rw b (ap (drop t) frames-split ∙ d)) (λ b k. absurd (omega arith)))
+
   -- the frames from the last table's on
   last-frames : (t : ℕ) → length (F .tables) ≡ t + 1
       → (x : Table) × (drop (frameOf (length (F .tables)) (length (F .keys)) t) (fileFrames F) ≡ tableBytes x ∷ behindTables)
@@ -142,6 +156,12 @@ module _ (F : File) where
         let (more, d) = view-frames v q e in
         let (_, _, l) = query-split (length (F .tables)) F v q e in
         (pack more ++ tail, relation-frame v l (viewBytes q) more d .here)
+
+    table-there : (t : ℕ) → t < length (F .tables)
+        → (rest : List ℕ) × (drop (getD (p .starts) t 0 + 1) (p .bytes) ≡ tableBytes (tableAt (F .tables) t) ++ rest)
+    table-there t h =
+        let (more, d) = table-frames t h in
+        (pack more ++ tail, relation-frame t (omega arith) (tableBytes (tableAt (F .tables) t)) more d .here)
 
     keys-there : (r : ℕ) → length (p .starts) ≡ 16 → length (F .tables) ≤ 16 → FirstKey (p .bytes) (p .starts) (p .tables) r
         → (rest : List ℕ) × (drop r (p .bytes) ≡ pack (map keyBytes (F .keys)) ++ rest)
@@ -260,6 +280,7 @@ outlined p o s t k r g n f l = record {
     relations = r ∙ P .relations;
     goal = g ∙ P .goal;
     negative = n ∙ P .negative;
+    table-frames = table-there F p P;
     views = view-there F p P;
     foreign = keys-there F p P (o .foreign) s (omega (arith, L .relationCount)) f;
     starts-size = s;

@@ -14,7 +14,7 @@ use Rattle.meaning.specs.Algebra.{query}
 use Rattle.meaning.specs.Bounds.{schema, schemas}
 use Rattle.bounds.specs.Catalog.{widthAt, boundAt, maskAt}
 use Rattle.rules.specs.Legal.{Legal, tableAt}
-use Rattle.rules.specs.Written.{maskOf, keyBytes, viewBytes}
+use Rattle.rules.specs.Written.{maskOf, tableBytes, keyBytes, viewBytes}
 use Rattle.rules.specs.Plans.{PlanOf}
 use Rattle.rules.specs.declared.plan.Plan.{Plan}
 use Rattle.store.specs.Rows.{rowsIn}
@@ -29,7 +29,8 @@ pub record Given (F : File) (bytes starts shape : List ℕ) (o : Outline) : Type
   pub relations : o .relations ≡ length (F .tables) + length (F .views)
   pub goal : o .goal ≡ F .goal .view
   pub negative : o .negative ≡ F .goal .negative
-  -- each view's frame stands behind the place of its length
+  -- each relation's frame stands behind the place of its length
+  pub table-frames : (t : ℕ) → t < length (F .tables) → (rest : List ℕ) × (drop (getD starts t 0 + 1) bytes ≡ tableBytes (tableAt (F .tables) t) ++ rest)
   pub views : (v : ℕ) (q : View) → query (length (F .tables)) F v ≡ some q → (rest : List ℕ) × (drop (getD starts v 0 + 1) bytes ≡ viewBytes q ++ rest)
   pub foreign : (rest : List ℕ) × (drop (o .foreign) bytes ≡ pack (map keyBytes (F .keys)) ++ rest)
   pub starts-size : length starts ≡ 16

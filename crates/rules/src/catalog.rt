@@ -101,8 +101,9 @@ pub fn put_shape(shape: &mut [u8], r: u8, kind: u8, width: u8, bound: u8, mask: 
 }
 
 // The column whose four bytes stand at a place.
-fn domain_at(bytes: &[u8], at: usize) -> Domain
-    requires { ⌜ at ≤ 70000 ⌝ }
+// Refused: lo twice; the low byte of lo twice.
+pub fn domain_at(bytes: &[u8], at: usize) -> Domain
+    requires { ⌜ at ≤ 4294970000 ⌝ }
     ensures { λ d. ⌜ columnOf d ≡ columnFrom (now (bytes .entry)) at ⌝ }
 {
     let lo = integer::from_bytes(byte_at(bytes, at), byte_at(bytes, at + 1));

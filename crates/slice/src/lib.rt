@@ -1,5 +1,6 @@
-// Bytes of a slice, at any place.
+// Numbers of a slice, at any place.
 ghost use mathlib.Core.Path.{_≡_};
+ghost use lib.IntN.{pos};
 ghost use lib.ListN.{getD, set};
 
 // The byte at a place; 0 past the end.
@@ -19,4 +20,33 @@ pub fn put_byte(bytes: &mut [u8], at: usize, b: u8)
         return;
     }
     bytes[at] = b;
+}
+
+// The same of words.
+// Refused: 1 past the end; the first word.
+pub fn word_at(words: &[u16], at: usize) -> u16
+    ensures { λ r. ⌜ r ≡ getD (now (words .entry)) at 0 ⌝ }
+{
+    if at < words.len() { words[at] } else { 0 }
+}
+
+// Refused: the first word; always 1.
+pub fn put_word(words: &mut [u16], at: usize, w: u16)
+    ensures { λ _. ⌜ now (words .exit) ≡ set (now (words .entry)) at w ⌝ }
+{
+    if words.len() <= at {
+        return;
+    }
+    words[at] = w;
+}
+
+// The same of the cells of an instance buffer.
+// Refused: the first number; always 1.
+pub fn put_short(shorts: &mut [i16], at: usize, n: i16)
+    ensures { λ _. ⌜ now (shorts .exit) ≡ set (now (shorts .entry)) at n ⌝ }
+{
+    if shorts.len() <= at {
+        return;
+    }
+    shorts[at] = n;
 }

@@ -1,0 +1,3 @@
+// A look at a rule file.
+pub mod cells;
+pub mod moves;
