@@ -59,7 +59,7 @@ fn note_rows(
 
 // The views whose rows are needed or whose sign is asked, from the first to the last. `counts` has the number of rows of each relation,
 // at first of the tables; `refuted` has 1 for a negative view, else 0.
-// Refused: the last view left out; rows where signs are asked.
+// Refused: the views before the goal alone; rows where signs are asked.
 pub fn evaluate(
     bytes: &[u8],
     starts: &[u32],
@@ -92,7 +92,7 @@ fn wanted(o: Outline, counts: &[u8], refuted: &[u8]) -> bool
     0 < slice::byte_at(counts, o.goal as usize)
 }
 
-// Refused: valid databases alone; a database that is not valid.
+// Refused: an empty database; a database that is not valid.
 pub fn is_case(
     bytes: &[u8],
     starts: &[u32],

@@ -87,7 +87,7 @@ fn need_goal(o: Outline, needed: &mut [u8], asked: &mut [u8])
 }
 
 // The place of a relation's frame behind its length; 0 past the last relation.
-// Refused: the place of the length; that of the relation before.
+// Refused: the place of the length; the place behind the kind.
 pub fn frame_at(starts: &[u32], r: u8) -> usize
     ensures { λ n. ⌜ (n ≤ 4294967296) × (r < length (now (starts .entry)) → n ≡ getD (now (starts .entry)) r 0 + 1) ⌝ }
 {
@@ -99,7 +99,7 @@ pub fn frame_at(starts: &[u32], r: u8) -> usize
 }
 
 // The flags of all relations that the goal depends on are set, from the last relation down.
-// Refused: the goal alone; a sign where rows are needed.
+// Refused: the goal alone; the goal's sign where its rows are needed.
 pub fn needs_of(bytes: &[u8], starts: &[u32], o: Outline, needed: &mut [u8], asked: &mut [u8])
     ensures { λ _. ⌜ NeedsOf (now (bytes .entry)) (now (starts .entry)) o (now (needed .entry)) (now (asked .entry)) (now (needed .exit)) (now (asked .exit)) ⌝ }
 {

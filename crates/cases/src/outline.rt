@@ -46,7 +46,7 @@ fn some_row(shape: &[u8], tables: u8) -> bool
 }
 
 // The tables' numbers of rows, each at its relation's place.
-// Refused: one row more; the first table left out.
+// Refused: the first table's number for each; the number of tables for each.
 pub fn count_tables(shape: &[u8], tables: u8, counts: &mut [u8])
     ensures { λ _. ⌜ TablesCounted (now (shape .entry)) tables (now (counts .entry)) (now (counts .exit)) ⌝ }
 {

@@ -100,7 +100,7 @@ fn append(work: &mut [i32], keep: bool, source: u8, i: u8, to: u8, at: u8, width
 }
 
 // The earliest of m rows of the left, each as often as in both, and their number.
-// Refused: each row that the right has; a row once more than the right has it.
+// Refused: each row that the right has; a row once only, as in a set.
 pub fn intersection(work: &mut [i32], left: u8, m: u8, right: u8, n: u8, to: u8, width: u8) -> u8
     ensures { λ kept. ⌜ Shared (now (work .entry)) left m right n to width kept (now (work .exit)) ⌝ }
 {
