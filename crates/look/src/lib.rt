@@ -1,3 +1,85 @@
 // A look at a rule file.
+pub mod buffers;
 pub mod cells;
 pub mod moves;
+pub mod scan;
+
+use cases::outline;
+use cases::outline::Outline;
+use rules::plan;
+ghost use mathlib.Core.Path.{_≡_};
+ghost use Rattle.meaning.specs.Look.{After};
+ghost use Rattle.look.specs.Looks.{answerOf, lookOf, Concludes, Finds};
+
+// The work area has at least this many numbers.
+const AREA: usize = 9216;
+
+pub enum Answer {
+    Case(u64),
+    NoCase,
+    Spent(u64),
+    Refused(u8, u16),
+}
+
+// Without a case: no case at all where the search has come to the number of candidates.
+fn concluded(end: u64, n: u64) -> Answer
+    ensures { λ r. ⌜ Concludes end n r ⌝ }
+{
+    if end == n {
+        return Answer::NoCase;
+    }
+    Answer::Spent(end)
+}
+
+// A look at an accepted file of n candidates.
+fn looked(
+    bytes: &[u8],
+    starts: &[u32],
+    shape: &[u8],
+    o: Outline,
+    n: u64,
+    start: u64,
+    count: u64,
+    work: &mut [i32],
+    instance: &mut [i16],
+) -> Answer
+    ensures { λ r. ⌜ Finds (now (bytes .entry)) (now (starts .entry)) (now (shape .entry)) o n start count (now (work .entry)) (now (instance .entry)) r (now (work .exit)) (now (instance .exit)) ⌝ }
+{
+    let mut codes = [0u16; 512];
+    let cells = cells::cells_of(shape, o.tables, &mut codes);
+    if instance.len() < (cells as usize) {
+        return Answer::Refused(12, 0);
+    }
+    if n < start {
+        return Answer::Refused(13, 0);
+    }
+    let end = buffers::end_of(start, count, n);
+    let k = scan::search(bytes, starts, shape, o, &codes, cells, start, end, work);
+    if k < end {
+        buffers::show(&codes, cells, work, instance);
+        buffers::clear(work);
+        return Answer::Case(k);
+    }
+    buffers::clear(work);
+    concluded(end, n)
+}
+
+// A look: for every text, start, count and buffers, the answer and what the buffers then hold.
+// Refused: 9,215 numbers as enough; refusal 12 before 11.
+pub fn look(text: &[u8], start: u64, count: u64, work: &mut [i32], instance: &mut [i16]) -> Answer
+    ensures { λ r. ⌜ After.after (answerOf r) (now (work .exit)) (now (instance .exit)) ≡ lookOf (now (text .entry)) start count (now (work .entry)) (now (instance .entry)) ⌝ }
+{
+    if work.len() < AREA {
+        return Answer::Refused(11, 0);
+    }
+    let p = plan::check(text);
+    if p.number != 0 {
+        return Answer::Refused(p.number, p.line);
+    }
+    let bytes = p.bytes;
+    let starts = p.starts;
+    let shape = p.shape;
+    let n = p.candidates;
+    let o = outline::outline_of(p);
+    looked(&bytes, &starts, &shape, o, n, start, count, work, instance)
+}

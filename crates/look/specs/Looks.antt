@@ -1,0 +1,42 @@
+-- A look at a text: "Order: 11, 1, 2 over the whole text, then frames in turn, then 3 for no goal, 10, 12, 13". Assumes nothing: these are
+-- definitions, and they compute.
+use mathlib.Core.Path.{_≡_}
+use mathlib.Core.Bool.{cond}
+use mathlib.Core.List.{List}
+use Prim.Native.Nat.{ℕ, _≤_}
+use lib.Dec.{ltb, eqb}
+use lib.IntN.{ℤ}
+use lib.ListN.{length}
+use Rattle.meaning.specs.Syntax.{File}
+use Rattle.meaning.specs.Candidates.{candidates}
+use Rattle.meaning.specs.Look.{Answer, After, refusal, workSize, look}
+use Rattle.rules.specs.Check.{Outcome}
+use Rattle.rules.specs.FileOf.{fileOf}
+use Rattle.cases.specs.Given.{Given}
+use Rattle.cases.specs.declared.outline.Outline.{Outline}
+use Rattle.look.specs.declared.Answer.{Answer as Answered}
+use Rattle.look.specs.declared.Answer.the-variants.{Case, NoCase, Spent, Refused}
+
+-- the document's answer
+abbrev pub answerOf : Answered → Answer
+answerOf (Case k) = Answer.case k
+answerOf NoCase = Answer.noCase
+answerOf (Spent next) = Answer.spent next
+answerOf (Refused n l) = Answer.refused n l
+
+-- "A refusal returns its number and a line .. no buffer changes"
+abbrev pub lookAt : Outcome → ℕ → ℕ → List ℤ → List ℤ → After
+lookAt (Outcome.refused n l) start count work inst = After.after (Answer.refused n l) work inst
+lookAt (Outcome.accepted F) start count work inst = look F start count work inst
+
+unfoldable pub lookOf : List ℕ → ℕ → ℕ → List ℤ → List ℤ → After
+lookOf text start count work inst = cond (ltb (length work) workSize) (refusal 11 work inst) (lookAt (fileOf text) start count work inst)
+
+-- ---- what the code gives
+
+pub record Concludes (end n : ℕ) (r : Answered) : Type 0 where
+  pub concludes : answerOf r ≡ cond (eqb end n) Answer.noCase (Answer.spent end)
+
+pub record Finds (bytes starts shape : List ℕ) (o : Outline) (n start count : ℕ) (work inst : List ℤ) (r : Answered) (work′ inst′ : List ℤ) : Type 0 where
+  pub finds : (F : File) → Given F bytes starts shape o → n ≡ candidates F → workSize ≤ length work
+      → After.after (answerOf r) work′ inst′ ≡ look F start count work inst

@@ -1,0 +1,57 @@
+-- The search of a stretch of candidates. Assumes nothing: these are definitions.
+use mathlib.Core.Path.{_≡_}
+use mathlib.Core.Bool.{Bool, true}
+use mathlib.Core.List.{List}
+use Prim.Native.Nat.{ℕ, _-_, _≤_, _<_}
+use lib.IntN.{ℤ}
+use lib.ListN.{length, getD}
+use Rattle.meaning.specs.Syntax.{File}
+use Rattle.meaning.specs.Candidates.{cells as cellsOf}
+use Rattle.meaning.specs.Look.{seek, candidate}
+use Rattle.rules.specs.Legal.{tableAt}
+use Rattle.store.specs.Layout.{area}
+use Rattle.cases.specs.Given.{Given}
+use Rattle.cases.specs.Needs.{Covers}
+use Rattle.cases.specs.Judgement.{TablesKept}
+use Rattle.cases.specs.declared.outline.Outline.{Outline}
+use Rattle.look.specs.Cells.{codesOf, cellsIn}
+use Rattle.look.specs.Moves.{Digits}
+
+-- from candidate k on to `next`, in a search from `start`: k is a case where it stays; else each case that is passed over has an earlier
+-- one from the start on
+pub record Passed (p : ℕ → Bool) (start k next : ℕ) : Type 0 where
+  pub follows : k ≤ next
+  pub hit : next ≡ k → p k ≡ true
+  pub over : (j : ℕ) → k ≤ j → j < next → p j ≡ true → (i : ℕ) × (start ≤ i) × (i < k) × (p i ≡ true)
+
+-- what the search of a file rests on
+pub record Plan (F : File) (bytes starts shape needed asked : List ℕ) (o : Outline) : Type 0 where
+  pub given : Given F bytes starts shape o
+  pub covers : Covers F needed asked
+
+-- the numbers of the tables' rows and the cells of candidate k stand where they should
+pub record At (F : File) (counts refuted : List ℕ) (work : List ℤ) (k : ℕ) : Type 0 where
+  pub counts-size : length counts ≡ 16
+  pub refuted-size : length refuted ≡ 16
+  pub whole : area ≤ length work
+  pub rows : (t : ℕ) → t < length (F .tables) → getD counts t 0 ≡ tableAt (F .tables) t .rows
+  pub cells : cellsIn work (codesOf F) ≡ cellsOf F k
+
+-- ---- what the code gives
+
+pub record Tests (bytes starts shape needed asked : List ℕ) (o : Outline) (k : ℕ) (counts refuted : List ℕ) (work : List ℤ) (r : ℕ) (counts′ refuted′ : List ℕ) (work′ : List ℤ) : Type 0 where
+  pub kept : TablesKept (o .tables) counts work counts′ work′
+  pub refuted-size : length refuted′ ≡ length refuted
+  pub bound : r ≤ 18446744073709551615
+  pub follows : k ≤ r
+  pub passed : (F : File) → Plan F bytes starts shape needed asked o → At F counts refuted work k → (start : ℕ) → Passed (candidate F) start k r
+
+pub record Scans (bytes starts shape needed asked : List ℕ) (o : Outline) (codes : List ℕ) (n start end : ℕ) (counts refuted : List ℕ) (work : List ℤ) (r : ℕ) (work′ : List ℤ) : Type 0 where
+  pub length-kept : length work′ ≡ length work
+  pub found : (F : File) → Plan F bytes starts shape needed asked o → Digits F bytes starts codes n → At F counts refuted work start → start ≤ end
+      → (r ≡ seek (candidate F) start (end - start)) × (r < end → cellsIn work′ (codesOf F) ≡ cellsOf F r)
+
+pub record Searches (bytes starts shape : List ℕ) (o : Outline) (codes : List ℕ) (n start end : ℕ) (work : List ℤ) (r : ℕ) (work′ : List ℤ) : Type 0 where
+  pub length-kept : length work′ ≡ length work
+  pub found : (F : File) → Given F bytes starts shape o → Digits F bytes starts codes n → area ≤ length work → start ≤ end
+      → (r ≡ seek (candidate F) start (end - start)) × (r < end → cellsIn work′ (codesOf F) ≡ cellsOf F r)

@@ -1,0 +1,121 @@
+// The first case of a stretch of candidates.
+use super::moves;
+use cases::judgement;
+use cases::needs;
+use cases::outline;
+use cases::outline::Outline;
+ghost use Prim.Native.Nat.{_<_};
+ghost use Rattle.look.specs.Scans.{Tests, Scans, Searches};
+
+// Candidate k, whose cells stand in the work area, if it is a case; else the candidate to go on with.
+fn tested(
+    bytes: &[u8],
+    starts: &[u32],
+    shape: &[u8],
+    needed: &[u8],
+    asked: &[u8],
+    o: Outline,
+    k: u64,
+    counts: &mut [u8],
+    refuted: &mut [u8],
+    work: &mut [i32],
+) -> u64
+    requires { ⌜ k < 18446744073709551615 ⌝ }
+    ensures { λ r. ⌜ Tests (now (bytes .entry)) (now (starts .entry)) (now (shape .entry)) (now (needed .entry)) (now (asked .entry)) o k (now (counts .entry)) (now (refuted .entry)) (now (work .entry)) r (now (counts .exit)) (now (refuted .exit)) (now (work .exit)) ⌝ }
+{
+    if judgement::is_case(
+        bytes,
+        starts,
+        shape,
+        needed,
+        asked,
+        o,
+        counts,
+        refuted,
+        work,
+    ) {
+        return k;
+    }
+    k + 1
+}
+
+// The first case from `start` on and before `end`, or `end`. The cells of candidate `start` stand in the work area, and those of the
+// case then.
+fn scan(
+    bytes: &[u8],
+    starts: &[u32],
+    shape: &[u8],
+    needed: &[u8],
+    asked: &[u8],
+    o: Outline,
+    codes: &[u16],
+    cells: u32,
+    start: u64,
+    end: u64,
+    counts: &mut [u8],
+    refuted: &mut [u8],
+    work: &mut [i32],
+) -> u64
+    ensures { λ r. ⌜ Scans (now (bytes .entry)) (now (starts .entry)) (now (shape .entry)) (now (needed .entry)) (now (asked .entry)) o (now (codes .entry)) cells start end (now (counts .entry)) (now (refuted .entry)) (now (work .entry)) r (now (work .exit)) ⌝ }
+{
+    let mut k = start;
+    while k < end {
+        let next = tested(
+            bytes,
+            starts,
+            shape,
+            needed,
+            asked,
+            o,
+            k,
+            counts,
+            refuted,
+            work,
+        );
+        if next == k {
+            return k;
+        }
+        moves::move_to(bytes, starts, codes, cells, k, next, work);
+        k = next;
+    }
+    end
+}
+
+// The same, where nothing is set up yet.
+// Refused: from candidate 0; the relations that the goal needs left out.
+pub fn search(
+    bytes: &[u8],
+    starts: &[u32],
+    shape: &[u8],
+    o: Outline,
+    codes: &[u16],
+    cells: u32,
+    start: u64,
+    end: u64,
+    work: &mut [i32],
+) -> u64
+    ensures { λ r. ⌜ Searches (now (bytes .entry)) (now (starts .entry)) (now (shape .entry)) o (now (codes .entry)) cells start end (now (work .entry)) r (now (work .exit)) ⌝ }
+{
+    let mut counts = [0u8; 16];
+    outline::count_tables(shape, o.tables, &mut counts);
+    let mut needed = [0u8; 16];
+    let mut asked = [0u8; 16];
+    needs::needs_of(bytes, starts, o, &mut needed, &mut asked);
+    let mut refuted = [0u8; 16];
+    moves::place(bytes, starts, codes, cells, start, work);
+    scan(
+        bytes,
+        starts,
+        shape,
+        &needed,
+        &asked,
+        o,
+        codes,
+        cells,
+        start,
+        end,
+        &mut counts,
+        &mut refuted,
+        work,
+    )
+}
