@@ -1,1 +1,2 @@
 -- The laws, lowest first.
+pub mod ScanLaws

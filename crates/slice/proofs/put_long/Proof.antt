@@ -1,0 +1,24 @@
+-- `slice::put_long` meets its contract. Assumes nothing.
+use mathlib.Core.Path.{sym}
+use lib.Seq.{set-out}
+use borrow.Author.Needs.{needs}
+use Rattle.slice.proofs.put_long.Statement.{statement}
+use Rattle.slice.proofs.put_long.Tie as tie
+
+returns : tie.Need-returns
+returns c = sym (set-out _ _ _ (c .if1 .taken))
+
+mul-n : tie.Need-mul-n
+mul-n c = search needs
+
+slice-set-from-n : tie.Need-slice-set-from-n
+slice-set-from-n c = search needs
+
+same-length : tie.Need-same-length
+same-length c = search needs
+
+returns-2 : tie.Need-returns-2
+returns-2 c = search needs
+
+pub put-long-spec : {M : Type 1} → statement M
+put-long-spec = tie.close (tie.spec returns mul-n slice-set-from-n same-length returns-2)
