@@ -33,6 +33,8 @@ use Rattle.cases.proofs.Preparing.{counts-are}
 use Rattle.look.specs.Cells.{code, rowCodes, tableCodes, allCodes, codesOf, cellAt, cellsIn}
 use Rattle.look.specs.Moves.{Digits, Placed, Moved}
 use Rattle.look.specs.Scans.{Passed, Plan, At, Tests, Scans, Searches}
+use Rattle.look.proofs.Distinct.{Rising, rising-within, codes-inside}
+use Rattle.look.proofs.Standing.{tables-stand}
 
 -- ---- what is sought is one number
 
@@ -51,40 +53,20 @@ sought-one p s n r x =
 
 -- ---- cells of tables that stay
 
-listed-all : {A : Type 0} {P : A → Type 0} (f : ℕ → A) (n : ℕ) → ((k : ℕ) → k < n → P (f k)) → All P (listed f n)
-unfolding listed
-listed-all f zero h = All.nil
-listed-all f (suc n) h = all-append (listed-all f n (λ k l. h k (omega arith))) (All.cons (h n (omega arith)) All.nil)
-
--- every code is one of the first n tables
-row-below : (t i w : ℕ) → w ≤ 4 → i < 8 → All (λ x. x < suc t * 32) (rowCodes t i w)
-unfolding rowCodes
-row-below t i w hw hi = listed-all (code t i) w (λ c h. omega arith)
-
-table-below : (t w n : ℕ) → w ≤ 4 → n ≤ 8 → All (λ x. x < suc t * 32) (tableCodes t w n)
-unfolding tableCodes
-table-below t w zero hw hn = All.nil
-table-below t w (suc n) hw hn = all-append (table-below t w n hw (omega arith)) (row-below t n w hw (omega arith))
-
-codes-below : (rows columns : ℕ → ℕ) (n : ℕ) → ((t : ℕ) → t < n → (rows t ≤ 8) × (columns t ≤ 4)) → All (λ x. x < n * 32) (allCodes rows columns n)
-unfolding allCodes
-codes-below rows columns zero h = All.nil
-codes-below rows columns (suc n) h =
-    all-append (all-map (λ x l. omega arith) (codes-below rows columns n (λ t l. h t (omega arith)))) (table-below n (columns n) (rows n) (h n (omega arith) .1) (h n (omega arith) .0))
+rising-below : {lo hi : ℕ} {xs : List ℕ} → Rising lo xs hi → All (λ x. x < hi) xs
+rising-below {lo} {hi} {xs} r = all-of xs (λ j h. rising-within r j h .1)
+  where
+    all-of : {P : ℕ → Type 0} (xs : List ℕ) → ((j : ℕ) → j < length xs → P (getD xs j 0)) → All P xs
+    all-of [] h = All.nil
+    all-of (x ∷ xs) h = All.cons (h 0 (omega arith)) (all-of xs (λ j l. h (suc j) (omega arith)))
 
 map-same : {A B : Type 0} (f g : A → B) {xs : List A} → All (λ x. f x ≡ g x) xs → map f xs ≡ map g xs
 map-same f g All.nil = refl
 map-same f g (All.cons e es) = rw (e, map-same f g es)
 
 module _ {F : File} (L : Legal F) where
-  table-at : (t : ℕ) → t < length (F .tables) → LegalTable (tableAt (F .tables) t)
-  table-at t h = all-at (L .tables) (record { rows = 0; columns = []; key = [] }) t h
-
   codes-tables : All (λ x. x / 32 < length (F .tables)) (codesOf F)
-  unfolding codesOf
-  codes-tables = all-map (λ x h. div-lt-iff-lt-mul (omega arith) .1 h)
-      (codes-below (λ t. tableAt (F .tables) t .rows) (λ t. length (tableAt (F .tables) t .columns)) (length (F .tables))
-      (λ t h. (table-at t h .rows .most, table-at t h .count .most)))
+  codes-tables = all-map (λ x h. div-lt-iff-lt-mul (omega arith) .1 h) (rising-below (codes-inside F L))
 
   pub cells-kept : {tables : ℕ} {counts counts′ : List ℕ} {work work′ : List ℤ} → tables ≡ length (F .tables) → TablesKept tables counts work counts′ work′
       → cellsIn work′ (codesOf F) ≡ cellsIn work (codesOf F)
@@ -97,146 +79,140 @@ module _ {F : File} (L : Legal F) where
       ∙ ap (λ (R : List Row). getD (getD R i []) c missing) (k .table t (suc c) (suc i) (omega arith))
       ∙ cell-of-rows work t (suc c) (suc i) i c (omega arith) (omega arith)) codes-tables)
 
-module _ (tables-stand : (F : File) (k : ℕ) (work : List ℤ) → Legal F → cellsIn work (codesOf F) ≡ cells F k → (t : ℕ) → t < length (F .tables)
-    → rowsIn work t (length (tableAt (F .tables) t .columns)) (tableAt (F .tables) t .rows) ≡ getD (database F k) t []) where
-  -- ---- a candidate is tested
+-- ---- a candidate is tested
 
-  ready : {F : File} {bytes starts shape needed asked : List ℕ} {o : Outline} {counts refuted : List ℕ} {work : List ℤ} {k : ℕ}
-      → Plan F bytes starts shape needed asked o → At F counts refuted work k → Ready F (database F k) needed asked counts refuted work
-  ready {F} {counts = counts} {work = work} {k = k} P A = record {
-    covers = P .covers;
-    shaped = every-database F (legal-wellFormed F (P .given .legal)) .shaped k;
-    tables = record { table = λ t h. rw (A .rows t h) (tables-stand F k work (P .given .legal) (A .cells) t h) };
-    whole = A .whole;
-    counts-size = A .counts-size;
-    refuted-size = A .refuted-size;
+ready : {F : File} {bytes starts shape needed asked : List ℕ} {o : Outline} {counts refuted : List ℕ} {work : List ℤ} {k : ℕ}
+    → Plan F bytes starts shape needed asked o → At F counts refuted work k → Ready F (database F k) needed asked counts refuted work
+ready {F} {counts = counts} {work = work} {k = k} P A = record {
+  covers = P .covers;
+  shaped = every-database F (legal-wellFormed F (P .given .legal)) .shaped k;
+  tables = record { table = λ t h. rw (A .rows t h) (tables-stand k work (P .given .legal) (A .cells) t h) };
+  whole = A .whole;
+  counts-size = A .counts-size;
+  refuted-size = A .refuted-size;
+}
+
+module _ {bytes starts shape needed asked : List ℕ} {o : Outline} {k : ℕ} {counts refuted : List ℕ} {work : List ℤ} {counts′ refuted′ : List ℕ} {work′ : List ℤ} {b : Bool}
+    (J : Judges bytes starts shape needed asked o counts refuted work b counts′ refuted′ work′) where
+  judged : (F : File) → Plan F bytes starts shape needed asked o → At F counts refuted work k → b ≡ candidate F k
+  unfolding candidate
+  judged F P A = J .case F (database F k) (P .given) (ready P A)
+
+  pub tests-case : k < 18446744073709551615 → b ≡ true → Tests bytes starts shape needed asked o k counts refuted work k counts′ refuted′ work′
+  tests-case l e = record {
+    kept = J .kept;
+    refuted-size = J .refuted-size;
+    bound = omega arith;
+    follows = omega arith;
+    passed = λ F P A start. record {
+      follows = omega arith;
+      hit = λ _. sym (judged F P A) ∙ e;
+      over = λ j a c p. absurd (omega arith);
+    };
   }
 
-  module _ {bytes starts shape needed asked : List ℕ} {o : Outline} {k : ℕ} {counts refuted : List ℕ} {work : List ℤ} {counts′ refuted′ : List ℕ} {work′ : List ℤ} {b : Bool}
-      (J : Judges bytes starts shape needed asked o counts refuted work b counts′ refuted′ work′) where
-    judged : (F : File) → Plan F bytes starts shape needed asked o → At F counts refuted work k → b ≡ candidate F k
-    unfolding candidate
-    judged F P A = J .case F (database F k) (P .given) (ready P A)
-
-    pub tests-case : k < 18446744073709551615 → b ≡ true → Tests bytes starts shape needed asked o k counts refuted work k counts′ refuted′ work′
-    tests-case l e = record {
-      kept = J .kept;
-      refuted-size = J .refuted-size;
-      bound = omega arith;
+  pub tests-none : k < 18446744073709551615 → b ≡ false → Tests bytes starts shape needed asked o k counts refuted work (k + 1) counts′ refuted′ work′
+  tests-none l e = record {
+    kept = J .kept;
+    refuted-size = J .refuted-size;
+    bound = omega arith;
+    follows = omega arith;
+    passed = λ F P A start. record {
       follows = omega arith;
-      passed = λ F P A start. record {
-        follows = omega arith;
-        hit = λ _. sym (judged F P A) ∙ e;
-        over = λ j a c p. absurd (omega arith);
-      };
+      hit = λ q. absurd (omega arith);
+      over = λ j a c p. let q : j ≡ k = omega arith in never (subst (λ i. candidate F i ≡ true) q p) (sym (judged F P A) ∙ e);
+    };
+  }
+
+-- ---- the loop
+
+-- nothing from the start on and before k is a case, and the cells of candidate k stand in the work area
+pub record Scanned (bytes starts shape needed asked : List ℕ) (o : Outline) (codes : List ℕ) (n start : ℕ) (counts refuted : List ℕ) (work : List ℤ) (k : ℕ) (counts′ refuted′ : List ℕ) (work′ : List ℤ) : Type 0 where
+  pub from : start ≤ k
+  pub length-kept : length work′ ≡ length work
+  pub counts-size : length counts′ ≡ length counts
+  pub refuted-size : length refuted′ ≡ length refuted
+  pub here : (F : File) → Plan F bytes starts shape needed asked o → Digits F bytes starts codes n → At F counts refuted work start → At F counts′ refuted′ work′ k
+  pub none : (F : File) → Plan F bytes starts shape needed asked o → Digits F bytes starts codes n → At F counts refuted work start
+      → (j : ℕ) → start ≤ j → j < k → candidate F j ≡ false
+
+module _ {bytes starts shape needed asked : List ℕ} {o : Outline} {codes : List ℕ} {n start : ℕ} {counts refuted : List ℕ} {work : List ℤ} where
+  pub scanned-none : Scanned bytes starts shape needed asked o codes n start counts refuted work start counts refuted work
+  scanned-none = record {
+    from = omega arith;
+    length-kept = refl;
+    counts-size = refl;
+    refuted-size = refl;
+    here = λ F P D A. A;
+    none = λ F P D A j a b. absurd (omega arith);
+  }
+
+  module _ {k r : ℕ} {counts₁ refuted₁ : List ℕ} {work₁ : List ℤ} (S : Scanned bytes starts shape needed asked o codes n start counts refuted work k counts₁ refuted₁ work₁)
+      {counts₂ refuted₂ : List ℕ} {work₂ : List ℤ} (T : Tests bytes starts shape needed asked o k counts₁ refuted₁ work₁ r counts₂ refuted₂ work₂) where
+    pub scanned-more : (r ≡ k → ⊥) → {work₃ : List ℤ} → Moved bytes starts codes n k r work₂ work₃
+        → Scanned bytes starts shape needed asked o codes n start counts refuted work r counts₂ refuted₂ work₃
+    scanned-more d {work₃} M = record {
+      from = omega (arith, S .from, T .follows);
+      length-kept = M .length-kept ∙ T .kept .size ∙ S .length-kept;
+      counts-size = T .kept .counts-size ∙ S .counts-size;
+      refuted-size = T .refuted-size ∙ S .refuted-size;
+      here = λ F P D A.
+          let X = S .here F P D A in
+          let L = P .given .legal in
+          let t = P .given .tables in
+          record {
+            counts-size = T .kept .counts-size ∙ X .counts-size;
+            refuted-size = T .refuted-size ∙ X .refuted-size;
+            whole = omega (arith, X .whole, M .length-kept, T .kept .size);
+            rows = λ i h. T .kept .count i (omega arith) ∙ X .rows i h;
+            cells = M .moved F D (omega (arith, X .whole, T .kept .size)) (cells-kept L t (T .kept) ∙ X .cells);
+          };
+      none = λ F P D A j a b. by-test (ltb j k)
+          (λ e. S .none F P D A j a (ltb-true j k e))
+          (λ e. let h = ltb-false j k e in by-test (candidate F j)
+          (λ c. let (i, si, ik, ci) = T .passed F P (S .here F P D A) start .over j h b c in never ci (S .none F P D A i si ik))
+          (λ c. c));
     }
 
-    pub tests-none : k < 18446744073709551615 → b ≡ false → Tests bytes starts shape needed asked o k counts refuted work (k + 1) counts′ refuted′ work′
-    tests-none l e = record {
-      kept = J .kept;
-      refuted-size = J .refuted-size;
-      bound = omega arith;
-      follows = omega arith;
-      passed = λ F P A start. record {
-        follows = omega arith;
-        hit = λ q. absurd (omega arith);
-        over = λ j a c p. let q : j ≡ k = omega arith in never (subst (λ i. candidate F i ≡ true) q p) (sym (judged F P A) ∙ e);
-      };
+    pub scanned-found : {end : ℕ} → k < end → r ≡ k → Scans bytes starts shape needed asked o codes n start end counts refuted work k work₂
+    scanned-found {end} l e = record {
+      length-kept = T .kept .size ∙ S .length-kept;
+      found = λ F P D A h.
+          let X = S .here F P D A in
+          (sought-one (candidate F) start (end - start) k (record {
+            from = S .from;
+            to = omega arith;
+            none = S .none F P D A;
+            hit = λ _. T .passed F P X start .hit e;
+          }), λ _. cells-kept (P .given .legal) (P .given .tables) (T .kept) ∙ X .cells);
     }
 
-  -- ---- the loop
-
-  -- nothing from the start on and before k is a case, and the cells of candidate k stand in the work area
-  pub record Scanned (bytes starts shape needed asked : List ℕ) (o : Outline) (codes : List ℕ) (n start : ℕ) (counts refuted : List ℕ) (work : List ℤ) (k : ℕ) (counts′ refuted′ : List ℕ) (work′ : List ℤ) : Type 0 where
-    pub from : start ≤ k
-    pub length-kept : length work′ ≡ length work
-    pub counts-size : length counts′ ≡ length counts
-    pub refuted-size : length refuted′ ≡ length refuted
-    pub here : (F : File) → Plan F bytes starts shape needed asked o → Digits F bytes starts codes n → At F counts refuted work start → At F counts′ refuted′ work′ k
-    pub none : (F : File) → Plan F bytes starts shape needed asked o → Digits F bytes starts codes n → At F counts refuted work start
-        → (j : ℕ) → start ≤ j → j < k → candidate F j ≡ false
-
-  module _ {bytes starts shape needed asked : List ℕ} {o : Outline} {codes : List ℕ} {n start : ℕ} {counts refuted : List ℕ} {work : List ℤ} where
-    pub scanned-none : Scanned bytes starts shape needed asked o codes n start counts refuted work start counts refuted work
-    scanned-none = record {
-      from = omega arith;
-      length-kept = refl;
-      counts-size = refl;
-      refuted-size = refl;
-      here = λ F P D A. A;
-      none = λ F P D A j a b. absurd (omega arith);
-    }
-
-    module _ {k r : ℕ} {counts₁ refuted₁ : List ℕ} {work₁ : List ℤ} (S : Scanned bytes starts shape needed asked o codes n start counts refuted work k counts₁ refuted₁ work₁)
-        {counts₂ refuted₂ : List ℕ} {work₂ : List ℤ} (T : Tests bytes starts shape needed asked o k counts₁ refuted₁ work₁ r counts₂ refuted₂ work₂) where
-      pub scanned-more : (r ≡ k → ⊥) → {work₃ : List ℤ} → Moved bytes starts codes n k r work₂ work₃
-          → Scanned bytes starts shape needed asked o codes n start counts refuted work r counts₂ refuted₂ work₃
-      scanned-more d {work₃} M = record {
-        from = omega (arith, S .from, T .follows);
-        length-kept = M .length-kept ∙ T .kept .size ∙ S .length-kept;
-        counts-size = T .kept .counts-size ∙ S .counts-size;
-        refuted-size = T .refuted-size ∙ S .refuted-size;
-        here = λ F P D A.
-            let X = S .here F P D A in
-            let L = P .given .legal in
-            let t = P .given .tables in
-            record {
-              counts-size = T .kept .counts-size ∙ X .counts-size;
-              refuted-size = T .refuted-size ∙ X .refuted-size;
-              whole = omega (arith, X .whole, M .length-kept, T .kept .size);
-              rows = λ i h. T .kept .count i (omega arith) ∙ X .rows i h;
-              cells = M .moved F D (omega (arith, X .whole, T .kept .size)) (cells-kept L t (T .kept) ∙ X .cells);
-            };
-        none = λ F P D A j a b. by-test (ltb j k)
-            (λ e. S .none F P D A j a (ltb-true j k e))
-            (λ e. let h = ltb-false j k e in by-test (candidate F j)
-            (λ c. let (i, si, ik, ci) = T .passed F P (S .here F P D A) start .over j h b c in never ci (S .none F P D A i si ik))
-            (λ c. c));
-      }
-
-      pub scanned-found : {end : ℕ} → k < end → r ≡ k → Scans bytes starts shape needed asked o codes n start end counts refuted work k work₂
-      scanned-found {end} l e = record {
-        length-kept = T .kept .size ∙ S .length-kept;
-        found = λ F P D A h.
-            let X = S .here F P D A in (
-              sought-one (candidate F) start (end - start) k (record {
-                from = S .from;
-                to = omega arith;
-                none = S .none F P D A;
-                hit = λ _. T .passed F P X start .hit e;
-              }),
-              λ _. cells-kept (P .given .legal) (P .given .tables) (T .kept) ∙ X .cells,
-            );
-      }
-
-    pub scanned-all : {k end : ℕ} {counts₁ refuted₁ : List ℕ} {work₁ : List ℤ} → Scanned bytes starts shape needed asked o codes n start counts refuted work k counts₁ refuted₁ work₁
-        → end ≤ k → Scans bytes starts shape needed asked o codes n start end counts refuted work end work₁
-    scanned-all {k} {end} S l = record {
-      length-kept = S .length-kept;
-      found = λ F P D A h. (
-        sought-one (candidate F) start (end - start) end (record {
+  pub scanned-all : {k end : ℕ} {counts₁ refuted₁ : List ℕ} {work₁ : List ℤ} → Scanned bytes starts shape needed asked o codes n start counts refuted work k counts₁ refuted₁ work₁
+      → end ≤ k → Scans bytes starts shape needed asked o codes n start end counts refuted work end work₁
+  scanned-all {k} {end} S l = record {
+    length-kept = S .length-kept;
+    found = λ F P D A h.
+        (sought-one (candidate F) start (end - start) end (record {
           from = h;
           to = omega arith;
           none = λ j a b. S .none F P D A j a (omega arith);
           hit = λ x. absurd (omega arith);
-        }),
-        λ x. absurd (omega arith),
-      );
-    }
-
-  -- ---- the search
-
-  pub searches : {bytes starts shape : List ℕ} {o : Outline} {codes : List ℕ} {n start end : ℕ} {work work₁ work₂ : List ℤ} {counts needed asked : List ℕ} {r : ℕ}
-      → TablesCounted shape (o .tables) (replicate 16 0) counts → NeedsOf bytes starts o (replicate 16 0) (replicate 16 0) needed asked
-      → Placed bytes starts codes n start work work₁ → Scans bytes starts shape needed asked o codes n start end counts (replicate 16 0) work₁ r work₂
-      → Searches bytes starts shape o codes n start end work r work₂
-  searches {shape = shape} C N P S = record {
-    length-kept = S .length-kept ∙ P .length-kept;
-    found = λ F G D whole h. S .found F (record { given = G; covers = N .covers F shape G refl refl }) D (record {
-      counts-size = C .size;
-      refuted-size = refl;
-      whole = omega (arith, P .length-kept);
-      rows = λ t l. counts-are G C refl t l;
-      cells = P .placed F D whole;
-    }) h;
+        }), λ x. absurd (omega arith));
   }
+
+-- ---- the search
+
+pub searches : {bytes starts shape : List ℕ} {o : Outline} {codes : List ℕ} {n start end : ℕ} {work work₁ work₂ : List ℤ} {counts needed asked : List ℕ} {r : ℕ}
+    → TablesCounted shape (o .tables) (replicate 16 0) counts → NeedsOf bytes starts o (replicate 16 0) (replicate 16 0) needed asked
+    → Placed bytes starts codes n start work work₁ → Scans bytes starts shape needed asked o codes n start end counts (replicate 16 0) work₁ r work₂
+    → Searches bytes starts shape o codes n start end work r work₂
+searches {shape = shape} C N P S = record {
+  length-kept = S .length-kept ∙ P .length-kept;
+  found = λ F G D whole h. S .found F (record { given = G; covers = N .covers F shape G refl refl }) D (record {
+    counts-size = C .size;
+    refuted-size = refl;
+    whole = omega (arith, P .length-kept);
+    rows = λ t l. counts-are G C refl t l;
+    cells = P .placed F D whole;
+  }) h;
+}

@@ -98,7 +98,7 @@ packed-tables (t ∷ ts) fs =
     ap (λ (l : List ℕ). length (tableBytes t) ∷ tableBytes t ++ l) (packed-tables ts fs)
     ∙ ap (λ (l : List ℕ). length (tableBytes t) ∷ l) (sym (append-assoc (tableBytes t) (packedTables ts) (pack fs)))
 
-legal-bits : (c : Column) → LegalColumn c → Bits16 c
+pub legal-bits : (c : Column) → LegalColumn c → Bits16 c
 legal-bits c l = record {
   lo-above = l .low;
   lo-below = ≤-trans (l .ordered) (l .high);

@@ -1,0 +1,235 @@
+-- The bytes say the column of each cell, and tables whose cells are those of a candidate are those of its database. Assumes nothing.
+use mathlib.Core.Path.{_≡_, refl, sym, ap, ap₂, _∙_}
+use mathlib.Core.List.{List, [], _∷_, _++_, map, map-append, append-assoc, append-nil}
+use Prim.Native.Nat.{ℕ, zero, suc, _+_, _*_, _/_, _%_, _≤_, _<_}
+use native.Mathlib.Nat.{suc-mul, zero-mul}
+use native.Mathlib.Omega.{arith}
+use lib.IntN.{ℤ}
+use lib.ListN.{length, getD, drop, length-append}
+use lib.Seq.{drop-drop, take-at, drop-at}
+use Rattle.value.specs.Bag.{All}
+use Rattle.value.specs.Value.{Value, Column}
+use Rattle.value.proofs.Values.{all-map}
+use Rattle.meaning.specs.Lists.{copies, joined}
+use Rattle.meaning.specs.Syntax.{Table, File, Row, Database}
+use Rattle.meaning.specs.Candidates.{cellColumns, cutRows, cut, cells, database}
+use Rattle.meaning.proofs.Elements.{all-append}
+use Rattle.meaning.proofs.ListSteps.{map-at}
+use Rattle.bounds.specs.Catalog.{widthAt, boundAt}
+use Rattle.rules.specs.Entries.{columnFrom}
+use Rattle.rules.specs.Packed.{columnsFrom}
+use Rattle.rules.specs.Legal.{Legal, LegalTable, tableAt}
+use Rattle.rules.specs.Written.{columnBytes, tableBytes}
+use Rattle.rules.proofs.CandidateLaws.{columns-back}
+use Rattle.rules.proofs.PlanLaws.{legal-bits}
+use Rattle.store.specs.Layout.{cellIn}
+use Rattle.store.specs.Rows.{listed, rowIn, rowsIn}
+use Rattle.store.proofs.Listed.{listed-same, length-listed, listed-getD}
+use Rattle.cases.specs.Given.{Given}
+use Rattle.cases.specs.declared.outline.Outline.{Outline}
+use Rattle.cases.proofs.OutlineLaws.{bound-is}
+use Rattle.cases.proofs.ValidLaws.{table-width}
+use Rattle.look.specs.Cells.{code, rowCodes, tableCodes, allCodes, codesOf, cellAt, cellsIn, TablesCoded}
+use Rattle.look.specs.Moves.{columnAt, noColumn, Digits}
+use Rattle.look.proofs.CodeLaws.{codesFrom, codes-of, codes-few, codes-same, length-codes}
+
+-- ---- what a code says
+
+code-table : (t i c : ℕ) → i < 8 → c < 4 → code t i c / 32 ≡ t
+code-table t i c h k = omega arith
+
+code-row : (t i c : ℕ) → i < 8 → c < 4 → code t i c / 4 % 8 ≡ i
+code-row t i c h k = omega arith
+
+code-column : (t i c : ℕ) → c < 4 → code t i c % 4 ≡ c
+code-column t i c k = omega arith
+
+-- ---- lists
+
+map-listed : {A B : Type 0} (f : A → B) (g : ℕ → A) (n : ℕ) → map f (listed g n) ≡ listed (λ k. f (g k)) n
+unfolding listed
+map-listed f g zero = refl
+map-listed f g (suc n) = map-append f (listed g n) (g n ∷ []) ∙ ap (λ l. l ++ (f (g n) ∷ [])) (map-listed f g n)
+
+all-listed : {A : Type 0} {P : A → Type 0} (f : ℕ → A) (n : ℕ) → ((k : ℕ) → P (f k)) → All P (listed f n)
+unfolding listed
+all-listed f zero h = All.nil
+all-listed f (suc n) h = all-append (all-listed f n h) (All.cons (h n) All.nil)
+
+joined-snoc : {A : Type 0} (R : List (List A)) (r : List A) → joined (R ++ (r ∷ [])) ≡ joined R ++ r
+joined-snoc [] r = append-nil r
+joined-snoc (x ∷ R) r = ap (λ l. x ++ l) (joined-snoc R r) ∙ sym (append-assoc x (joined R) r)
+
+-- one more copy behind
+copies-snoc : {A : Type 0} (n : ℕ) (xs : List A) → copies n xs ++ xs ≡ xs ++ copies n xs
+copies-snoc zero xs = sym (append-nil xs)
+copies-snoc (suc n) xs = append-assoc xs (copies n xs) xs ∙ ap (λ l. xs ++ l) (copies-snoc n xs)
+
+length-joined : {A : Type 0} (w : ℕ) {R : List (List A)} → All (λ r. length r ≡ w) R → length (joined R) ≡ length R * w
+length-joined w All.nil = sym (zero-mul w)
+length-joined w (All.cons {x = r} {xs = R} p ps) = length-append r (joined R) ∙ omega (arith, p, length-joined w ps, suc-mul (length R) w)
+
+-- rows of w elements in a row, and cut again
+cut-joined : {A : Type 0} (w : ℕ) {R : List (List A)} (vs : List A) → All (λ r. length r ≡ w) R → cutRows (length R) w (joined R ++ vs) ≡ R
+cut-joined w vs All.nil = refl
+cut-joined w vs (All.cons {x = r} {xs = R} p ps) =
+    let rest = joined R ++ vs in
+    rw (append-assoc r (joined R) vs, take-at r rest w p, drop-at r rest w p, cut-joined w vs ps)
+
+-- ---- the column of a code
+
+column-of : (bytes : List ℕ) (at n c : ℕ) (d : Column) → c < n → columnFrom bytes (at + 4 * c) ≡ getD (columnsFrom bytes at n) c d
+unfolding columnsFrom
+column-of bytes at zero c d h = absurd (omega arith)
+column-of bytes at (suc n) zero d h = let s : at + 4 * 0 ≡ at = omega arith in ap (columnFrom bytes) s
+column-of bytes at (suc n) (suc c) d h =
+    let s : at + 4 * suc c ≡ at + 4 + 4 * c = omega arith in
+    ap (columnFrom bytes) s ∙ column-of bytes (at + 4) n c d (omega arith)
+
+table-columns : (bytes : List ℕ) (at : ℕ) (x : Table) (rest : List ℕ) → LegalTable x → drop (at + 1) bytes ≡ tableBytes x ++ rest
+    → columnsFrom bytes (at + 5) (length (x .columns)) ≡ x .columns
+unfolding tableBytes
+table-columns bytes at x rest l e =
+    let s : at + 5 ≡ at + 1 + 4 = omega arith in
+    let behind : drop (at + 5) bytes ≡ joined (map columnBytes (x .columns)) ++ rest =
+    ap (λ i. drop i bytes) s ∙ sym (drop-drop 4 (at + 1) bytes) ∙ ap (drop 4) e in
+    columns-back bytes (at + 5) rest behind (all-map legal-bits (l .columns))
+
+module _ (bytes starts : List ℕ) where
+  row-columns : (t i : ℕ) (x : Table) (rest : List ℕ) → LegalTable x → i < 8 → drop (getD starts t 0 + 1) bytes ≡ tableBytes x ++ rest
+      → map (columnAt bytes starts) (rowCodes t i (length (x .columns))) ≡ x .columns
+  unfolding columnAt rowCodes
+  row-columns t i x rest l h e =
+      let w = length (x .columns) in
+      let at = getD starts t 0 + 5 in
+      map-listed (columnAt bytes starts) (code t i) w
+      ∙ listed-same (λ c. columnAt bytes starts (code t i c)) (λ c. getD (x .columns) c noColumn) w
+      (λ c k. let few : c < 4 = omega (arith, k, l .count .most) in
+      ap₂ (λ (u v : ℕ). columnFrom bytes (getD starts u 0 + 5 + 4 * v)) (code-table t i c h few) (code-column t i c few)
+      ∙ column-of bytes at w c noColumn k
+      ∙ ap (λ (cs : List Column). getD cs c noColumn) (table-columns bytes (getD starts t 0) x rest l e))
+      ∙ listed-getD (x .columns) noColumn w refl
+
+  rows-columns : (t n : ℕ) (x : Table) (rest : List ℕ) → LegalTable x → n ≤ 8 → drop (getD starts t 0 + 1) bytes ≡ tableBytes x ++ rest
+      → map (columnAt bytes starts) (tableCodes t (length (x .columns)) n) ≡ copies n (x .columns)
+  unfolding tableCodes
+  rows-columns t zero x rest l h e = refl
+  rows-columns t (suc n) x rest l h e =
+      let w = length (x .columns) in
+      map-append (columnAt bytes starts) (tableCodes t w n) (rowCodes t n w)
+      ∙ ap₂ _++_ (rows-columns t n x rest l (omega arith) e) (row-columns t n x rest l (omega arith) e)
+      ∙ copies-snoc n (x .columns)
+
+  tables-columns : (t : ℕ) {ts : List Table} → All LegalTable ts
+      → ((i : ℕ) → i < length ts → (rest : List ℕ) × (drop (getD starts (t + i) 0 + 1) bytes ≡ tableBytes (tableAt ts i) ++ rest))
+      → map (columnAt bytes starts) (codesFrom t ts) ≡ cellColumns ts
+  tables-columns t All.nil h = refl
+  tables-columns t (All.cons {x = x} {xs = ts} l ls) h =
+      let (rest, e) = h 0 (omega arith) in
+      let s : t ≡ t + 0 = omega arith in
+      let here : drop (getD starts t 0 + 1) bytes ≡ tableBytes x ++ rest = ap (λ i. drop (getD starts i 0 + 1) bytes) s ∙ e in
+      map-append (columnAt bytes starts) (tableCodes t (length (x .columns)) (x .rows)) (codesFrom (suc t) ts)
+      ∙ ap₂ _++_ (rows-columns t (x .rows) x rest l (l .rows .most) here)
+      (tables-columns (suc t) ls (λ i k. let (rest′, e′) = h (suc i) (omega arith) in
+      let s′ : suc t + i ≡ t + suc i = omega arith in
+      (rest′, ap (λ j. drop (getD starts j 0 + 1) bytes) s′ ∙ e′)))
+
+-- ---- the codes of a file that is given
+
+module _ {F : File} {bytes starts shape : List ℕ} {o : Outline} (g : Given F bytes starts shape o) where
+  given-codes : allCodes (boundAt shape) (widthAt shape) (o .tables) ≡ codesOf F
+  unfolding codesOf
+  given-codes =
+      codes-same (o .tables) (λ t h. g .bounds t ∙ bound-is F t (omega (arith, h, g .tables)))
+      (λ t h. g .widths t ∙ table-width F t (omega (arith, h, g .tables)))
+      ∙ ap (allCodes (λ t. tableAt (F .tables) t .rows) (λ t. length (tableAt (F .tables) t .columns))) (g .tables)
+
+  given-columns : map (columnAt bytes starts) (codesOf F) ≡ cellColumns (F .tables)
+  given-columns =
+      ap (map (columnAt bytes starts)) (codes-of F)
+      ∙ tables-columns bytes starts 0 (g .legal .tables) (λ i h. let s : i ≡ 0 + i = omega arith in
+      let (rest, e) = g .table-frames i h in
+      (rest, ap (λ j. drop (getD starts j 0 + 1) bytes) (sym s) ∙ e))
+
+length-codesOf : (F : File) → length (codesOf F) ≡ length (cellColumns (F .tables))
+length-codesOf F = ap length (codes-of F) ∙ length-codes 0 (F .tables)
+
+pub digits-given : {F : File} {bytes starts shape : List ℕ} {o : Outline} {codes codes′ : List ℕ} {r : ℕ} → Given F bytes starts shape o
+    → TablesCoded shape (o .tables) codes r codes′ → length codes ≡ 512 → Digits F bytes starts codes′ r
+digits-given {F} {bytes} {starts} {codes = codes} {codes′} {r} g c n =
+    let same = given-codes g in
+    let total : r ≡ length (codesOf F) = c .total ∙ ap length same in
+    let few : length (cellColumns (F .tables)) ≤ length (F .tables) * 32 = codes-few (g .legal .tables) in
+    let room : r ≤ length codes = omega (arith, total, few, length-codesOf F, g .legal .relationCount, n) in
+    record {
+      legal = g .legal;
+      starts-size = g .starts-size;
+      codes-are = rw same at (c .coded room);
+      columns = λ j h. sym (map-at (columnAt bytes starts) (codesOf F) j 0 noColumn (omega (arith, h, total)))
+          ∙ ap (λ (cs : List Column). getD cs j noColumn) (given-columns g);
+      number = sym (total ∙ length-codesOf F);
+    }
+
+-- ---- the rows of a table
+
+module _ (work : List ℤ) where
+  row-cells : (t i w : ℕ) → i < 8 → w ≤ 4 → map (cellAt work) (rowCodes t i w) ≡ rowIn work t w i
+  unfolding rowCodes cellAt rowIn
+  row-cells t i w h k =
+      map-listed (cellAt work) (code t i) w
+      ∙ listed-same (λ c. cellAt work (code t i c)) (cellIn work t i) w
+      (λ c l. let few : c < 4 = omega arith in
+      rw (code-table t i c h few, code-row t i c h few, code-column t i c few))
+
+  table-cells : (t w n : ℕ) → n ≤ 8 → w ≤ 4 → map (cellAt work) (tableCodes t w n) ≡ joined (rowsIn work t w n)
+  unfolding tableCodes rowsIn listed
+  table-cells t w zero h k = refl
+  table-cells t w (suc n) h k =
+      map-append (cellAt work) (tableCodes t w n) (rowCodes t n w)
+      ∙ ap₂ _++_ (table-cells t w n (omega arith) k) (row-cells t n w (omega arith) k)
+      ∙ sym (joined-snoc (rowsIn work t w n) (rowIn work t w n))
+
+  rows-wide : (t w n : ℕ) → All (λ r. length r ≡ w) (rowsIn work t w n)
+  unfolding rowsIn rowIn
+  rows-wide t w n = all-listed (rowIn work t w) n (λ i. length-listed (cellIn work t i) w)
+
+  rows-number : (t w n : ℕ) → length (rowsIn work t w n) ≡ n
+  unfolding rowsIn
+  rows-number t w n = length-listed (rowIn work t w) n
+
+  -- the tables from table t on, cut from their cells
+  cut-table : (t : ℕ) (x : Table) (ts : List Table) → LegalTable x → cut (x ∷ ts) (map (cellAt work) (codesFrom t (x ∷ ts)))
+      ≡ rowsIn work t (length (x .columns)) (x .rows) ∷ cut ts (map (cellAt work) (codesFrom (suc t) ts))
+  cut-table t x ts l =
+      let w = length (x .columns) in
+      let n = x .rows in
+      let R = rowsIn work t w n in
+      let rest = map (cellAt work) (codesFrom (suc t) ts) in
+      let whole : map (cellAt work) (codesFrom t (x ∷ ts)) ≡ joined R ++ rest =
+      map-append (cellAt work) (tableCodes t w n) (codesFrom (suc t) ts)
+      ∙ ap (λ (vs : List Value). vs ++ rest) (table-cells t w n (l .rows .most) (l .count .most)) in
+      let own : cutRows n w (joined R ++ rest) ≡ R =
+      ap (λ k. cutRows k w (joined R ++ rest)) (sym (rows-number t w n)) ∙ cut-joined w rest (rows-wide t w n) in
+      let size : length (joined R) ≡ n * w = length-joined w (rows-wide t w n) ∙ ap (λ k. k * w) (rows-number t w n) in
+      let others : drop (n * w) (joined R ++ rest) ≡ rest = drop-at (joined R) rest (n * w) size in
+      ap (λ (vs : List Value). cut (x ∷ ts) vs) whole ∙ ap₂ (λ (d : List Row) (vs : List Value). d ∷ cut ts vs) own others
+
+  stand-from : (t : ℕ) {ts : List Table} → All LegalTable ts → (i : ℕ) → i < length ts
+      → rowsIn work (t + i) (length (tableAt ts i .columns)) (tableAt ts i .rows) ≡ getD (cut ts (map (cellAt work) (codesFrom t ts))) i []
+  stand-from t All.nil i h = absurd (omega arith)
+  stand-from t (All.cons {x = x} {xs = ts} l ls) zero h =
+      let s : t + 0 ≡ t = omega arith in
+      ap (λ k. rowsIn work k (length (x .columns)) (x .rows)) s ∙ sym (ap (λ (d : Database). getD d 0 []) (cut-table t x ts l))
+  stand-from t (All.cons {x = x} {xs = ts} l ls) (suc i) h =
+      let s : t + suc i ≡ suc t + i = omega arith in
+      ap (λ k. rowsIn work k (length (tableAt ts i .columns)) (tableAt ts i .rows)) s ∙ stand-from (suc t) ls i (omega arith)
+      ∙ sym (ap (λ (d : Database). getD d (suc i) []) (cut-table t x ts l))
+
+pub tables-stand : {F : File} (k : ℕ) (work : List ℤ) → Legal F → cellsIn work (codesOf F) ≡ cells F k → (t : ℕ) → t < length (F .tables)
+    → rowsIn work t (length (tableAt (F .tables) t .columns)) (tableAt (F .tables) t .rows) ≡ getD (database F k) t []
+unfolding database cellsIn
+tables-stand {F} k work l e t h =
+    let s : t ≡ 0 + t = omega arith in
+    ap (λ i. rowsIn work i (length (tableAt (F .tables) t .columns)) (tableAt (F .tables) t .rows)) s
+    ∙ stand-from work 0 (l .tables) t h
+    ∙ ap (λ (vs : List Value). getD (cut (F .tables) vs) t []) (sym (ap (map (cellAt work)) (codes-of F)) ∙ e)

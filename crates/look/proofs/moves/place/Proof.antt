@@ -1,0 +1,55 @@
+-- `look::moves::place` meets its contract. Assumes nothing.
+use native.Mathlib.Omega.{arith}
+use borrow.Author.Needs.{needs}
+use Rattle.look.proofs.MoveLaws.{Under, under-first, under-next, placed-all}
+use Rattle.look.proofs.moves.place.Statement.{statement}
+use Rattle.look.proofs.moves.place.Tie as tie
+
+abbrev Inv-loop : tie.InvT-loop
+Inv-loop bytes starts codes cells k work₀ q₀ j₀ work q j = Under bytes starts codes cells k k work₀ work j q
+
+abbrev μ-loop : tie.MeasureT-loop
+μ-loop bytes starts codes cells k work₀ q₀ j₀ work q j = j
+
+loop-holds : tie.Need-loop-holds Inv-loop μ-loop
+loop-holds c = under-first
+
+sub-j : tie.Need-sub-j Inv-loop μ-loop
+sub-j c = search needs
+
+cast-word-at : tie.Need-cast-word-at Inv-loop μ-loop
+cast-word-at c = search needs
+
+word-at-requires : tie.Need-word-at-requires Inv-loop μ-loop
+word-at-requires c κs = search needs
+
+put-digit-requires : tie.Need-put-digit-requires Inv-loop μ-loop
+put-digit-requires c κs = search needs
+
+loop-less : tie.Need-loop-less Inv-loop μ-loop
+loop-less c = omega arith
+
+loop-again : tie.Need-loop-again Inv-loop μ-loop
+loop-again c = under-next (c .before .before .before .before .loop-test .taken) (c .before .before .before .before .before .loop .inv) (c .before .before .before .word-at .ensures) (c .before .put-digit .ensures)
+
+same-length : tie.Need-same-length Inv-loop μ-loop
+same-length c = c .before .loop .inv .length-kept
+
+returns : tie.Need-returns Inv-loop μ-loop
+returns c = placed-all (c .loop-test .left) (c .before .loop .inv)
+
+pub place-spec : {M : Type 1} → statement M
+place-spec =
+    tie.close
+    (tie.spec
+    Inv-loop
+    μ-loop
+    loop-holds
+    sub-j
+    cast-word-at
+    word-at-requires
+    put-digit-requires
+    loop-less
+    loop-again
+    same-length
+    returns)
