@@ -19,7 +19,7 @@ use Rattle.meaning.specs.Candidates.{cells, database}
 use Rattle.meaning.specs.Look.{seek, candidate}
 use Rattle.meaning.proofs.Demand3.{every-database}
 use Rattle.meaning.proofs.Elements.{all-append, all-at}
-use Rattle.meaning.proofs.Seeks.{Sought, seeks}
+use Rattle.meaning.proofs.Seeks.{Sought, sought-one}
 use Rattle.rules.specs.Legal.{Legal, LegalTable, tableAt}
 use Rattle.rules.proofs.LegalAccepted.{legal-wellFormed}
 use Rattle.store.specs.Layout.{area, cellIn}
@@ -36,20 +36,8 @@ use Rattle.look.specs.Scans.{Passed, Plan, At, Tests, Scans, Searches}
 use Rattle.look.proofs.Distinct.{Rising, rising-within, codes-inside}
 use Rattle.look.proofs.Standing.{tables-stand}
 
--- ---- what is sought is one number
-
 never : {A : Type 0} {b : Bool} → b ≡ true → b ≡ false → A
 never t f = absurd (true≢false (sym t ∙ f))
-
-sought-one : (p : ℕ → Bool) (s n r : ℕ) → Sought p s n r → r ≡ seek p s n
-sought-one p s n r x =
-    let t = seeks p s n in
-    let u = seek p s n in
-    by-test (ltb r u)
-    (λ a. let l = ltb-true r u a in never (x .hit (omega (arith, t .to))) (t .none r (x .from) l))
-    (λ a. let l = ltb-false r u a in by-test (ltb u r)
-    (λ b. let m = ltb-true u r b in never (t .hit (omega (arith, x .to))) (x .none u (t .from) m))
-    (λ b. let m = ltb-false u r b in omega arith))
 
 -- ---- cells of tables that stay
 
@@ -178,26 +166,30 @@ module _ {bytes starts shape needed asked : List ℕ} {o : Outline} {codes : Lis
     scanned-found {end} l e = record {
       length-kept = T .kept .size ∙ S .length-kept;
       found = λ F P D A h.
-          let X = S .here F P D A in
-          (sought-one (candidate F) start (end - start) k (record {
-            from = S .from;
-            to = omega arith;
-            none = S .none F P D A;
-            hit = λ _. T .passed F P X start .hit e;
-          }), λ _. cells-kept (P .given .legal) (P .given .tables) (T .kept) ∙ X .cells);
+          let X = S .here F P D A in (
+            sought-one (candidate F) start (end - start) k (record {
+              from = S .from;
+              to = omega arith;
+              none = S .none F P D A;
+              hit = λ _. T .passed F P X start .hit e;
+            }),
+            λ _. cells-kept (P .given .legal) (P .given .tables) (T .kept) ∙ X .cells,
+          );
     }
 
   pub scanned-all : {k end : ℕ} {counts₁ refuted₁ : List ℕ} {work₁ : List ℤ} → Scanned bytes starts shape needed asked o codes n start counts refuted work k counts₁ refuted₁ work₁
       → end ≤ k → Scans bytes starts shape needed asked o codes n start end counts refuted work end work₁
   scanned-all {k} {end} S l = record {
     length-kept = S .length-kept;
-    found = λ F P D A h.
-        (sought-one (candidate F) start (end - start) end (record {
-          from = h;
-          to = omega arith;
-          none = λ j a b. S .none F P D A j a (omega arith);
-          hit = λ x. absurd (omega arith);
-        }), λ x. absurd (omega arith));
+    found = λ F P D A h. (
+      sought-one (candidate F) start (end - start) end (record {
+        from = h;
+        to = omega arith;
+        none = λ j a b. S .none F P D A j a (omega arith);
+        hit = λ x. absurd (omega arith);
+      }),
+      λ x. absurd (omega arith),
+    );
   }
 
 -- ---- the search
