@@ -8,3 +8,8 @@ pub mod DigitLaws
 pub mod MoveLaws
 -- the search
 pub mod ScanLaws
+-- the buffers and a look
+pub mod BufferLaws
+pub mod LookLaws
+-- demand 3
+pub mod RealLooks

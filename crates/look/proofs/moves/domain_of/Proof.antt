@@ -1,7 +1,7 @@
 -- `look::moves::domain_of` meets its contract. Assumes nothing.
+use borrow.Author.Needs.{needs}
 use Rattle.value.specs.Machine.{columnOf}
 use Rattle.look.proofs.MoveLaws.{column-found}
-use borrow.Author.Needs.{needs}
 use Rattle.look.proofs.moves.domain_of.Statement.{statement}
 use Rattle.look.proofs.moves.domain_of.Tie as tie
 

@@ -1,8 +1,8 @@
 -- `look::moves::put_digit` meets its contract. Assumes nothing.
 use mathlib.Core.Path.{sym, _∙_}
+use borrow.Author.Needs.{needs}
 use Rattle.value.specs.Machine.{columnOf, valueOf}
 use Rattle.look.proofs.MoveLaws.{none-put, digit-put, digit-fits}
-use borrow.Author.Needs.{needs}
 use Rattle.look.proofs.moves.put_digit.Statement.{statement}
 use Rattle.look.proofs.moves.put_digit.Tie as tie
 

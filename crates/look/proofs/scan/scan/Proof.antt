@@ -1,13 +1,10 @@
+-- `look::scan::scan` meets its contract. Assumes nothing.
 use Prim.Native.Nat.{_-_}
 use native.Mathlib.Omega.{arith}
 use borrow.Author.Needs.{needs}
 use Rattle.look.proofs.ScanLaws.{Scanned, scanned-none, scanned-more, scanned-found, scanned-all}
 use Rattle.look.proofs.scan.scan.Statement.{statement}
 use Rattle.look.proofs.scan.scan.Tie as tie
-use Rattle.look.proofs.scan.scan.Reads as reads
-use Rattle.look.proofs.scan.scan.Lts as lts
-use Rattle.look.proofs.moves.move_to.Reads as move-to-reads
-use Rattle.look.proofs.scan.tested.Reads as tested-reads
 
 abbrev Inv-loop : tie.InvT-loop
 Inv-loop bytes starts shape needed asked o codes cells start end counts₀ refuted₀ work₀ k₀ counts refuted work k =
@@ -16,55 +13,42 @@ Inv-loop bytes starts shape needed asked o codes cells start end counts₀ refut
 abbrev μ-loop : tie.MeasureT-loop
 μ-loop bytes starts shape needed asked o codes cells start end counts₀ refuted₀ work₀ k₀ counts refuted work k = end - k
 
--- src/scan.rt:62:5
 loop-holds : tie.Need-loop-holds Inv-loop μ-loop
 loop-holds c = scanned-none
 
--- src/scan.rt:63:13
 tested-requires : tie.Need-tested-requires Inv-loop μ-loop
 tested-requires c κs = search needs
 
--- src/scan.rt:76:13
 same-length : tie.Need-same-length Inv-loop μ-loop
 same-length c = search needs
 
--- src/scan.rt:76:13
 same-length-2 : tie.Need-same-length-2 Inv-loop μ-loop
 same-length-2 c = search needs
 
--- src/scan.rt:76:13
 same-length-3 : tie.Need-same-length-3 Inv-loop μ-loop
 same-length-3 c = search needs
 
--- src/scan.rt:76:13
 returns : tie.Need-returns Inv-loop μ-loop
 returns c = scanned-found (c .before .before .before .before .before .before .before .before .before .before .before .loop .inv) (c .before .before .before .before .before .before .tested .ensures) (omega arith) (c .if1 .taken)
 
--- src/scan.rt:78:9
 move-to-requires : tie.Need-move-to-requires Inv-loop μ-loop
 move-to-requires c κs = search needs
 
--- src/scan.rt:62:5
 loop-less : tie.Need-loop-less Inv-loop μ-loop
 loop-less c = omega (arith, c .before .before .before .before .before .before .before .before .before .tested .ensures .follows)
 
--- src/scan.rt:62:5
 loop-again : tie.Need-loop-again Inv-loop μ-loop
 loop-again c = scanned-more (c .before .before .before .before .before .before .before .before .before .before .before .before .before .before .loop .inv) (c .before .before .before .before .before .before .before .before .before .tested .ensures) (c .before .before .before .if1 .left) (c .before .move-to .ensures)
 
--- src/scan.rt:44:1
 same-length-4 : tie.Need-same-length-4 Inv-loop μ-loop
 same-length-4 c = c .before .loop .inv .counts-size
 
--- src/scan.rt:44:1
 same-length-5 : tie.Need-same-length-5 Inv-loop μ-loop
 same-length-5 c = c .before .loop .inv .refuted-size
 
--- src/scan.rt:44:1
 same-length-6 : tie.Need-same-length-6 Inv-loop μ-loop
 same-length-6 c = c .before .loop .inv .length-kept
 
--- src/scan.rt:44:1
 returns-2 : tie.Need-returns-2 Inv-loop μ-loop
 returns-2 c = scanned-all (c .before .loop .inv) (omega arith)
 

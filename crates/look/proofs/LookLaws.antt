@@ -1,0 +1,157 @@
+-- A look, from what each of its calls gives. Assumes nothing.
+use mathlib.Core.Path.{_≡_, refl, sym, ap, ap₂, _∙_}
+use mathlib.Core.Bool.{cond}
+use mathlib.Core.List.{List, _++_, map}
+use Prim.Native.Nat.{ℕ, _+_, _-_, _≤_, _<_, min}
+use native.Mathlib.Omega.{arith}
+use borrow.Author.Tests.{lt-ltb, le-ltb, eq-eqb, ne-eqb}
+use lib.Dec.{eqb}
+use lib.IntN.{ℤ, pos}
+use lib.ListN.{length, drop, replicate}
+use Rattle.value.specs.Value.{Value, shown}
+use Rattle.meaning.specs.Syntax.{File}
+use Rattle.meaning.specs.Candidates.{cellCount, candidates, cells}
+use Rattle.meaning.specs.Look.{Answer, After, seek, zeros, workSize, candidate, shownIn, verdict, look}
+use Rattle.rules.specs.Check.{Outcome}
+use Rattle.rules.specs.FileOf.{fileOf}
+use Rattle.rules.specs.Plans.{Plans}
+use Rattle.rules.specs.declared.plan.Plan.{Plan}
+use Rattle.rules.proofs.TextLaws.{accepted-text}
+use Rattle.cases.specs.Given.{Given, Outlines}
+use Rattle.cases.specs.declared.outline.Outline.{Outline}
+use Rattle.look.specs.Cells.{codesOf, cellsIn, TablesCoded}
+use Rattle.look.specs.Moves.{Digits}
+use Rattle.look.specs.Scans.{Searches}
+use Rattle.look.specs.Buffers.{Shows}
+use Rattle.look.specs.Looks.{answerOf, lookAt, lookOf, Concludes, Finds}
+use Rattle.look.specs.declared.Answer.{Answer as Answered}
+use Rattle.look.specs.declared.Answer.the-variants.{Case, NoCase, Spent, Refused}
+use Rattle.look.proofs.Standing.{digits-given}
+
+-- ---- without a case
+
+pub concluded-none : {end n : ℕ} → end ≡ n → Concludes end n NoCase
+concluded-none {end} {n} e = record { concludes = rw (eq-eqb end n e) }
+
+pub concluded-spent : {end n : ℕ} → (end ≡ n → ⊥) → Concludes end n (Spent end)
+concluded-spent {end} {n} h = record { concludes = rw (ne-eqb end n h) }
+
+-- ---- the definition, test by test
+
+module _ (F : File) (start count : ℕ) (work inst : List ℤ) where
+  look-short : workSize ≤ length work → length inst < cellCount F → look F start count work inst ≡ After.after (Answer.refused 12 0) work inst
+  unfolding look
+  look-short h i = rw (le-ltb (length work) workSize h, lt-ltb (length inst) (cellCount F) i)
+
+  look-late : workSize ≤ length work → cellCount F ≤ length inst → candidates F < start
+      → look F start count work inst ≡ After.after (Answer.refused 13 0) work inst
+  unfolding look
+  look-late h i l = rw (le-ltb (length work) workSize h, le-ltb (length inst) (cellCount F) i, lt-ltb (candidates F) start l)
+
+  look-on : (end : ℕ) → workSize ≤ length work → cellCount F ≤ length inst → start ≤ candidates F → end ≡ min (start + count) (candidates F)
+      → look F start count work inst ≡ verdict F end (seek (candidate F) start (end - start)) work inst
+  unfolding look
+  look-on end h i l e = rw (e, le-ltb (length work) workSize h, le-ltb (length inst) (cellCount F) i, le-ltb (candidates F) start l)
+
+module _ (F : File) (work inst : List ℤ) where
+  verdict-case : (end k : ℕ) → k < end → verdict F end k work inst ≡ After.after (Answer.case k) (zeros work) (shownIn F k inst)
+  verdict-case end k h = rw (lt-ltb k end h)
+
+  verdict-none : (end k : ℕ) → end ≤ k
+      → verdict F end k work inst ≡ After.after (cond (eqb end (candidates F)) Answer.noCase (Answer.spent end)) (zeros work) inst
+  verdict-none end k h = rw (le-ltb k end h)
+
+-- ---- a look at an accepted file
+
+zeros-same : (a b : List ℤ) → length a ≡ length b → zeros a ≡ zeros b
+zeros-same a b e = ap (λ n. replicate n (pos 0)) e
+
+digits : {F : File} {bytes starts shape : List ℕ} {o : Outline} {m : ℕ} {codes : List ℕ} → Given F bytes starts shape o
+    → TablesCoded shape (o .tables) (replicate 512 0) m codes → Digits F bytes starts codes m
+digits G C = digits-given G C refl
+
+pub finds-short : {bytes starts shape : List ℕ} {o : Outline} {n start count : ℕ} {work inst : List ℤ} {m : ℕ} {codes : List ℕ}
+    → TablesCoded shape (o .tables) (replicate 512 0) m codes → length inst < m → Finds bytes starts shape o n start count work inst (Refused 12 0) work inst
+finds-short {start = start} {count} {work} {inst} C h = record {
+  finds = λ F G e whole. sym (look-short F start count work inst whole (omega (arith, digits G C .number)));
+}
+
+pub finds-late : {bytes starts shape : List ℕ} {o : Outline} {n start count : ℕ} {work inst : List ℤ} {m : ℕ} {codes : List ℕ}
+    → TablesCoded shape (o .tables) (replicate 512 0) m codes → m ≤ length inst → n < start
+    → Finds bytes starts shape o n start count work inst (Refused 13 0) work inst
+finds-late {start = start} {count} {work} {inst} C h l = record {
+  finds = λ F G e whole. sym (look-late F start count work inst whole (omega (arith, digits G C .number)) (omega arith));
+}
+
+-- the search of a look that is not refused has come to k
+pub record Sought (bytes starts shape : List ℕ) (o : Outline) (n start count : ℕ) (work inst : List ℤ) (codes : List ℕ) (m end k : ℕ) (work₁ : List ℤ) : Type 0 where
+  pub coded : TablesCoded shape (o .tables) (replicate 512 0) m codes
+  pub room : m ≤ length inst
+  pub from : start ≤ n
+  pub to : end ≡ min (start + count) n
+  pub search : Searches bytes starts shape o codes m start end work k work₁
+
+module _ {bytes starts shape : List ℕ} {o : Outline} {n start count : ℕ} {work inst : List ℤ} {codes : List ℕ} {m end k : ℕ} {work₁ : List ℤ}
+    (S : Sought bytes starts shape o n start count work inst codes m end k work₁) where
+  module _ (F : File) (G : Given F bytes starts shape o) (e : n ≡ candidates F) (whole : workSize ≤ length work) where
+    found : (k ≡ seek (candidate F) start (end - start)) × (k < end → cellsIn work₁ (codesOf F) ≡ cells F k)
+    found = S .search .found F G (digits G (S .coded)) whole (omega (arith, S .from, S .to))
+
+    looks : look F start count work inst ≡ verdict F end k work inst
+    looks =
+        look-on F start count work inst end whole (omega (arith, S .room, digits G (S .coded) .number)) (omega (arith, S .from))
+        (S .to ∙ ap (min (start + count)) e)
+        ∙ ap (λ i. verdict F end i work inst) (sym (found .0))
+
+  pub finds-case : {work₂ inst₂ : List ℤ} → k < end → Shows codes m work₁ inst inst₂ → work₂ ≡ zeros work₁
+      → Finds bytes starts shape o n start count work inst (Case k) work₂ inst₂
+  finds-case {work₂} {inst₂} h W z = record {
+    finds = λ F G e whole.
+        let D : Digits F bytes starts codes m = digits G (S .coded) in
+        let w : work₂ ≡ zeros work = z ∙ zeros-same work₁ work (S .search .length-kept) in
+        let i : inst₂ ≡ shownIn F k inst =
+        W .shows (codesOf F) (D .codes-are) (S .room)
+        ∙ ap₂ (λ (a : List Value) (j : ℕ). map shown a ++ drop j inst) (found F G e whole .1 h) (sym (D .number)) in
+        ap₂ (λ (a b : List ℤ). After.after (Answer.case k) a b) w i ∙ sym (looks F G e whole ∙ verdict-case F work inst end k h);
+  }
+
+  pub finds-none : {work₂ : List ℤ} {r : Answered} → end ≤ k → work₂ ≡ zeros work₁ → Concludes end n r
+      → Finds bytes starts shape o n start count work inst r work₂ inst
+  finds-none {work₂} {r} h z R = record {
+    finds = λ F G e whole.
+        let w : work₂ ≡ zeros work = z ∙ zeros-same work₁ work (S .search .length-kept) in
+        let a : answerOf r ≡ cond (eqb end (candidates F)) Answer.noCase (Answer.spent end) =
+        R .concludes ∙ ap (λ j. cond (eqb end j) Answer.noCase (Answer.spent end)) e in
+        ap₂ (λ (a : Answer) (b : List ℤ). After.after a b inst) a w ∙ sym (looks F G e whole ∙ verdict-none F work inst end k h);
+  }
+
+-- ---- a look at a text
+
+module _ (text : List ℕ) (start count : ℕ) (work inst : List ℤ) where
+  pub looks-short : length work < workSize → After.after (Answer.refused 11 0) work inst ≡ lookOf text start count work inst
+  unfolding lookOf
+  looks-short h = rw (lt-ltb (length work) workSize h)
+
+  looks-at : (a : After) → workSize ≤ length work → a ≡ lookAt (fileOf text) start count work inst → a ≡ lookOf text start count work inst
+  unfolding lookOf
+  looks-at a h e = rw (le-ltb (length work) workSize h) e
+
+  refused-at : (out : Outcome) (p : Plan) → Plans out p → (p .number ≡ 0 → ⊥)
+      → After.after (Answer.refused (p .number) (p .line)) work inst ≡ lookAt out start count work inst
+  refused-at (Outcome.refused n line) p h k = ap₂ (λ a b. After.after (Answer.refused a b) work inst) (h .0) (h .1)
+  refused-at (Outcome.accepted F) p h k = absurd (k (h .number))
+
+  pub looks-refused : (p : Plan) → workSize ≤ length work → Plans (fileOf text) p → (p .number ≡ 0 → ⊥)
+      → After.after (Answer.refused (p .number) (p .line)) work inst ≡ lookOf text start count work inst
+  looks-refused p h P k = looks-at (After.after (Answer.refused (p .number) (p .line)) work inst) h (refused-at (fileOf text) p P k)
+
+  accepted-at : (out : Outcome) {p : Plan} {o : Outline} {r : Answered} {work′ inst′ : List ℤ} → fileOf text ≡ out → workSize ≤ length work
+      → Plans out p → p .number ≡ 0 → Outlines p o → Finds (p .bytes) (p .starts) (p .shape) o (p .candidates) start count work inst r work′ inst′
+      → After.after (answerOf r) work′ inst′ ≡ lookAt out start count work inst
+  accepted-at (Outcome.refused n line) e h P z O L = absurd (P .2 (sym (P .0) ∙ z))
+  accepted-at (Outcome.accepted F) e h P z O L = L .finds F (O .given F (accepted-text text F e .legal) P) (P .candidates-are) h
+
+  pub looks-accepted : {p : Plan} {o : Outline} {r : Answered} {work′ inst′ : List ℤ} → workSize ≤ length work → Plans (fileOf text) p → p .number ≡ 0
+      → Outlines p o → Finds (p .bytes) (p .starts) (p .shape) o (p .candidates) start count work inst r work′ inst′
+      → After.after (answerOf r) work′ inst′ ≡ lookOf text start count work inst
+  looks-accepted {r = r} {work′} {inst′} h P z O L = looks-at (After.after (answerOf r) work′ inst′) h (accepted-at (fileOf text) refl h P z O L)
