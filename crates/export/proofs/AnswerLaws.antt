@@ -1,5 +1,5 @@
 -- The answers of a plan and of a look. Assumes nothing.
-use mathlib.Core.Path.{_≡_, refl, ap, ap₂, subst}
+use mathlib.Core.Path.{_≡_, refl, ap₂, subst}
 use mathlib.Core.List.{List, [], _∷_}
 use Prim.Native.Nat.{ℕ, _+_, _*_}
 use lib.IntN.{ℤ}
@@ -10,7 +10,7 @@ use Rattle.rules.specs.Plans.{Plans}
 use Rattle.rules.specs.declared.plan.Plan.{Plan}
 use Rattle.look.specs.Looks.{answerOf}
 use Rattle.look.specs.declared.Answer.{Answer as Answered}
-use Rattle.look.specs.declared.Answer.the-variants.{Case, NoCase, Spent, Refused}
+use Rattle.look.specs.declared.Answer.the-variants.{Case, Spent, Refused}
 use Rattle.export.specs.Answers.{checkAnswer, overlay, Tells, Looks}
 
 pub answer-of : (o : Outcome) (p : Plan) → Plans o p → p .number * 65536 + p .line ≡ checkAnswer o
@@ -37,9 +37,6 @@ module _ {a : Answered} {values values₁ : List ℕ} where
 
   pub tells-refused : {n l : ℕ} {values₂ : List ℕ} → a ≡ Refused n l → values₁ ≡ set values 0 n → values₂ ≡ set values₁ 1 l → Tells a values 0x8f values₂
   tells-refused {n} {l} e p q = rw (e, q, p) (record { number = refl; values-are = two-put values n l })
-
-pub tells-none : {a : Answered} {values : List ℕ} → a ≡ NoCase → Tells a values 0x82 values
-tells-none e = rw e (record { number = refl; values-are = refl })
 
 pub told-look : {a : Answered} {values values′ : List ℕ} {r : ℕ} {work inst : List ℤ} {x : After} → After.after (answerOf a) work inst ≡ x → Tells a values r values′
     → Looks x values r work inst values′
