@@ -6,7 +6,7 @@ ghost use Rattle.meaning.specs.Look.{zeros};
 ghost use Rattle.look.specs.Buffers.{Shows};
 
 // The cells of the tables go to the front of the instance buffer.
-// Refused: the first cell in each place; the last cell left out.
+// Refused: nothing written; the first cell in each place.
 pub fn show(codes: &[u16], cells: u32, work: &[i32], instance: &mut [i16])
     ensures { λ _. ⌜ Shows (now (codes .entry)) cells (now (work .entry)) (now (instance .entry)) (now (instance .exit)) ⌝ }
 {
@@ -24,7 +24,7 @@ pub fn show(codes: &[u16], cells: u32, work: &[i32], instance: &mut [i16])
 }
 
 // "After an accepted look the work area is all zero".
-// Refused: the first number left; 1 for 0.
+// Refused: 1 for 0; the first number left.
 pub fn clear(work: &mut [i32])
     ensures { λ _. ⌜ now (work .exit) ≡ zeros (now (work .entry)) ⌝ }
 {
@@ -36,7 +36,7 @@ pub fn clear(work: &mut [i32])
 }
 
 // "end = min(start + count, N)", where the start is not above N: the sum is never taken where it would be too large.
-// Refused: N always; the count alone.
+// Refused: the start; the start where N is due.
 pub fn end_of(start: u64, count: u64, n: u64) -> u64
     requires { ⌜ start ≤ n ⌝ }
     ensures { λ r. ⌜ r ≡ min (start + count) n ⌝ }

@@ -65,7 +65,7 @@ fn looked(
 }
 
 // A look: for every text, start, count and buffers, the answer and what the buffers then hold.
-// Refused: 9,215 numbers as enough; refusal 12 before 11.
+// Refused: every text refused; 9,215 numbers as enough.
 pub fn look(text: &[u8], start: u64, count: u64, work: &mut [i32], instance: &mut [i16]) -> Answer
     ensures { λ r. ⌜ After.after (answerOf r) (now (work .exit)) (now (instance .exit)) ≡ lookOf (now (text .entry)) start count (now (work .entry)) (now (instance .entry)) ⌝ }
 {

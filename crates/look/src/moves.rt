@@ -46,7 +46,7 @@ fn put_digit(bytes: &[u8], starts: &[u32], code: u16, q: Quotients, work: &mut [
 }
 
 // The cells become those of candidate k.
-// Refused: those of candidate 0; the first cell left out.
+// Refused: those of candidate 0; of candidate 1.
 pub fn place(bytes: &[u8], starts: &[u32], codes: &[u16], cells: u32, k: u64, work: &mut [i32])
     ensures { λ _. ⌜ Placed (now (bytes .entry)) (now (starts .entry)) (now (codes .entry)) cells k (now (work .entry)) (now (work .exit)) ⌝ }
 {
@@ -60,7 +60,7 @@ pub fn place(bytes: &[u8], starts: &[u32], codes: &[u16], cells: u32, k: u64, wo
 }
 
 // The cells go from candidate k to `next`: from the last cell back, up to where the leading digits are the same.
-// Refused: the last cell alone; to candidate k.
+// Refused: to candidate k; no further than where a digit differs.
 pub fn move_to(
     bytes: &[u8],
     starts: &[u32],

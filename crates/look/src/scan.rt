@@ -82,7 +82,7 @@ fn scan(
 }
 
 // The same, where nothing is set up yet.
-// Refused: from candidate 0; the relations that the goal needs left out.
+// Refused: the cells of candidate 0 for any start; flags for 15 relations.
 pub fn search(
     bytes: &[u8],
     starts: &[u32],
