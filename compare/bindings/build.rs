@@ -6,5 +6,8 @@ fn main() {
     let library = here.join("../../target/staticlib");
     println!("cargo:rustc-link-search=native={}", library.display());
     println!("cargo:rustc-link-lib=static=export");
-    println!("cargo:rerun-if-changed={}", library.join("libexport.a").display());
+    println!(
+        "cargo:rerun-if-changed={}",
+        library.join("libexport.a").display()
+    );
 }

@@ -3,7 +3,9 @@ use std::io::Read;
 
 fn main() {
     let mut text = Vec::new();
-    std::io::stdin().read_to_end(&mut text).expect("standard input");
+    std::io::stdin()
+        .read_to_end(&mut text)
+        .expect("standard input");
     match sakthveim::check(&text) {
         Ok(()) => println!("accepted"),
         Err(refusal) => println!("refusal {}, line {}", refusal.number, refusal.line),

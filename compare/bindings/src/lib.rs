@@ -1,7 +1,12 @@
 //! A safe wrapper over the proved library.
 //!
-//! The functions of the library take plain numbers and slices as a pointer and a length, and have no precondition: any text and any
-//! lengths are answered. So the wrapper has nothing to test.
+//! The functions of the library take plain numbers and slices as a pointer and a length, and have
+//! no precondition: any text, any lengths, any start and any count are answered. Rust's slices have
+//! all that C must see to: their pointers are never null, and lent buffers do not overlap. So the
+//! wrapper has nothing to test.
+
+/// The work area of an accepted look has at least this many numbers.
+pub const WORK: usize = 9216;
 
 /// A refusal of document 01: its number, and the line from 1, or 0 where none is said.
 #[derive(Clone, Copy, Debug, PartialEq, Eq)]
@@ -10,18 +15,84 @@ pub struct Refusal {
     pub line: u16,
 }
 
+/// What a look answers.
+#[derive(Clone, Copy, Debug, PartialEq, Eq)]
+pub enum Answer {
+    /// "case k": the instance buffer begins with its cells.
+    Case(u64),
+    /// "no case" from the start on.
+    NoCase,
+    /// "spent", with the next start; no candidate before it, from the start on, is a case.
+    Spent(u64),
+    /// One of the refusals 1 to 13; no buffer has changed.
+    Refused(Refusal),
+}
+
+// The numbers of the answers, as in include/sakthveim.h.
+const SPENT: u32 = 0x00;
+const CASE: u32 = 0x80;
+const NO_CASE: u32 = 0x82;
+const REFUSED: u32 = 0x8f;
+
 extern "C" {
-    fn sakthveim_check(text: *const u8, length: usize) -> u32;
+    fn sakthveim_check(text: *const u8, text_length: usize) -> u32;
+    fn sakthveim_look(
+        text: *const u8,
+        text_length: usize,
+        start: u64,
+        count: u64,
+        work: *mut i32,
+        work_length: usize,
+        instance: *mut i16,
+        instance_length: usize,
+        values: *mut u64,
+        values_length: usize,
+    ) -> u32;
 }
 
 /// Whether a text is a rule file that meets none of the refusals 1 to 10.
 pub fn check(text: &[u8]) -> Result<(), Refusal> {
-    // The library reads `length` bytes from `text` and keeps nothing.
+    // The library reads `text_length` bytes from `text` and keeps nothing.
     let answer = unsafe { sakthveim_check(text.as_ptr(), text.len()) };
     let (number, line) = ((answer >> 16) as u8, answer as u16);
     if number == 0 {
         Ok(())
     } else {
         Err(Refusal { number, line })
+    }
+}
+
+/// A look: the smallest case k with start ≤ k < min(start + count, N), N being the number of
+/// candidates of the rule file.
+///
+/// `work` has at least [`WORK`] numbers, of any contents, and is all zero after an accepted look.
+/// `instance` has at least as many numbers as the tables have cells; only a case changes it, and
+/// only where its cells stand. Other lengths are refused, and a refused look changes no buffer.
+pub fn look(text: &[u8], start: u64, count: u64, work: &mut [i32], instance: &mut [i16]) -> Answer {
+    let mut values = [0; 2];
+    // The library reads the text, writes within the three buffers, and keeps nothing.
+    let answer = unsafe {
+        sakthveim_look(
+            text.as_ptr(),
+            text.len(),
+            start,
+            count,
+            work.as_mut_ptr(),
+            work.len(),
+            instance.as_mut_ptr(),
+            instance.len(),
+            values.as_mut_ptr(),
+            values.len(),
+        )
+    };
+    match answer {
+        SPENT => Answer::Spent(values[0]),
+        CASE => Answer::Case(values[0]),
+        NO_CASE => Answer::NoCase,
+        REFUSED => Answer::Refused(Refusal {
+            number: values[0] as u8,
+            line: values[1] as u16,
+        }),
+        other => unreachable!("answer {other:#x}"),
     }
 }

@@ -78,12 +78,17 @@ fn texts_of_the_document() {
     // M3
     for value in [14i16, 15, -15, -14, 5, -5, 0] {
         let view = format!("03 01 00 01 10 05000a 00{value:04x}");
-        assert_eq!(answer(&text(&["01 01 01 00 0000 0000", &view, "07 01 00"])), (0, 0));
+        assert_eq!(
+            answer(&text(&["01 01 01 00 0000 0000", &view, "07 01 00"])),
+            (0, 0)
+        );
     }
     // M4 to M9
     let views = ["03 01 00 01 10 010000", "03 01 01 01 10 010000"];
     let bags = ["01 02 01 00 0005 0005", "01 01 01 00 0005 0005"];
-    let four = [bags[0], bags[1], views[0], views[1], "05 02 03", "06 02 03", "07 04 00"];
+    let four = [
+        bags[0], bags[1], views[0], views[1], "05 02 03", "06 02 03", "07 04 00",
+    ];
     assert_eq!(answer(&text(&four)), (0, 0));
     for table in [
         "01 02 01 00 0000 0003",
@@ -95,12 +100,24 @@ fn texts_of_the_document() {
         }
     }
     let having = "04 01 00 00 01 10 12 000064 0701 010000 0701 010000";
-    assert_eq!(answer(&text(&["01 02 01 00 0032 0033", having, "07 01 00"])), (0, 0));
+    assert_eq!(
+        answer(&text(&["01 02 01 00 0032 0033", having, "07 01 00"])),
+        (0, 0)
+    );
     let none = "04 01 00 00 01 1410 10 0700 010000";
-    assert_eq!(answer(&text(&["01 02 01 00 0000 0003", none, "07 01 00"])), (0, 0));
+    assert_eq!(
+        answer(&text(&["01 02 01 00 0000 0003", none, "07 01 00"])),
+        (0, 0)
+    );
     // M10
     let goal = ["03 01 00 01 10 010000", "07 01 00"];
-    let cells = |last| text(&[&format!("01 01 02 00 0000 0fff 0000 {last}"), goal[0], goal[1]]);
+    let cells = |last| {
+        text(&[
+            &format!("01 01 02 00 0000 0fff 0000 {last}"),
+            goal[0],
+            goal[1],
+        ])
+    };
     assert_eq!(answer(&cells("0fff")), (0, 0));
     assert_eq!(answer(&cells("1000")), (10, 0));
     // M11

@@ -1,8 +1,10 @@
 -- `text::pair_at` meets its contract. Assumes nothing.
 use native.Mathlib.Omega.{arith}
-use mathlib.Core.Path.{sym}
+use mathlib.Core.Path.{sym, ap₂, _∙_}
+use Prim.Native.Nat.{ℕ, _+_, _*_}
 use lib.ListN.{length-drop}
 use borrow.Author.Needs.{needs}
+use Rattle.text.specs.declared.Pair.the-variants.{Byte}
 use Rattle.text.proofs.Digits.{pair-short, pair-high, pair-low, pair-both}
 use Rattle.text.proofs.pair_at.Statement.{statement}
 use Rattle.text.proofs.pair_at.Tie as tie
@@ -41,7 +43,9 @@ add-t11 : tie.Need-add-t11
 add-t11 c = search needs
 
 returns-4 : tie.Need-returns-4
-returns-4 c = cc (pair-both (c .before .before .before .before .before .before .before .before .args .text .now) (c .before .before .before .before .before .before .before .before .args .at) (omega arith) (omega arith) (omega arith))
+returns-4 c =
+    ap₂ (λ (h l : ℕ). Byte (16 * h + l)) (c .before .before .before .before .digit-of .ensures) (c .before .before .digit-of2 .ensures)
+    ∙ sym (pair-both (c .before .before .before .before .before .before .before .before .args .text .now) (c .before .before .before .before .before .before .before .before .args .at) (omega arith) (omega arith) (omega arith))
 
 pub pair-at-spec : {M : Type 1} → statement M
 pair-at-spec =

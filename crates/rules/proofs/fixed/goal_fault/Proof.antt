@@ -1,3 +1,5 @@
+use mathlib.Core.Path.{ap₂, _∙_}
+use Rattle.rules.specs.Faults.{first}
 use Rattle.rules.proofs.FixedAnswers.{goal-answer}
 use borrow.Author.Needs.{needs}
 use Rattle.rules.proofs.fixed.goal_fault.Statement.{statement}
@@ -31,7 +33,10 @@ first-of-requires-2 c κs = search needs
 
 -- src/fixed.rt:247:1
 returns : tie.Need-returns
-returns c = goal-answer _ _ _ (cc)
+returns c =
+    goal-answer _ _ _
+    (c .first-of2 .ensures ∙ ap₂ first (c .before .before .before .before .from-below .ensures)
+    (c .before .first-of .ensures ∙ ap₂ first (c .before .before .before .between .ensures) (c .before .before .ends-at .ensures)))
 
 pub goal-fault-spec : {M : Type 1} → statement M
 goal-fault-spec =
