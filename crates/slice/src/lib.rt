@@ -23,14 +23,14 @@ pub fn put_byte(bytes: &mut [u8], at: usize, b: u8)
 }
 
 // The same of words.
-// Refused: 1 past the end; the first word.
+// Refused: 1 past the end; a word at the end.
 pub fn word_at(words: &[u16], at: usize) -> u16
     ensures { λ r. ⌜ r ≡ getD (now (words .entry)) at 0 ⌝ }
 {
     if at < words.len() { words[at] } else { 0 }
 }
 
-// Refused: the first word; always 1.
+// Refused: a word written at the end; none but past the end.
 pub fn put_word(words: &mut [u16], at: usize, w: u16)
     ensures { λ _. ⌜ now (words .exit) ≡ set (now (words .entry)) at w ⌝ }
 {
@@ -41,7 +41,7 @@ pub fn put_word(words: &mut [u16], at: usize, w: u16)
 }
 
 // The same of the cells of an instance buffer.
-// Refused: the first number; always 1.
+// Refused: a number written at the end; none but past the end.
 pub fn put_short(shorts: &mut [i16], at: usize, n: i16)
     ensures { λ _. ⌜ now (shorts .exit) ≡ set (now (shorts .entry)) at n ⌝ }
 {
@@ -52,7 +52,7 @@ pub fn put_short(shorts: &mut [i16], at: usize, n: i16)
 }
 
 // The same of the values of an answer.
-// Refused: the first number; always 1.
+// Refused: a number written at the end; none but past the end.
 pub fn put_long(longs: &mut [u64], at: usize, n: u64)
     ensures { λ _. ⌜ now (longs .exit) ≡ set (now (longs .entry)) at n ⌝ }
 {
