@@ -1,0 +1,262 @@
+//! Readable text as a writer types it, and what is said of wrong ones.
+
+mod common;
+
+use common::{assemble, fault, frames, round_trip, EXAMPLE};
+
+/// A text with one view, which has this definition and stands on line 2.
+fn with_view(definition: &str) -> String {
+    format!(
+        "TABLE t0 ROWS 2 (c0 0 .. 3, c1 0 .. 3);\nVIEW v1 AS {definition};\nGOAL POSITIVE v1;\n"
+    )
+}
+
+#[test]
+fn comments_and_white_space() {
+    let readable = "-- the worked example\r\n\
+        table T0 rows 1(c0 0..12);view v1 as -- ; not the end\n\
+        \tselect\n  x.c0 from t0 AS x\n\n where((8)<X.C0) ; -- -- é\n\
+        View V2 As Select (a . c0) From v1 a Where 5 < a.c0; GOAL positive v2;-- end";
+    assert_eq!(assemble(readable), EXAMPLE);
+}
+
+#[test]
+fn every_statement() {
+    let readable = "\
+        TABLE t0 ROWS 2 (c0 0 .. 3 KEY, c1 -1 .. 3 KEY);\n\
+        TABLE t1 ROWS 1 (c0 -32768 .. -32768, c1 0 .. 3);\n\
+        FOREIGN KEY t1 (c0, c1) REFERENCES t0 (c1, c0);\n\
+        VIEW v2 AS SELECT p.c0 - -1, ROUND(q.c1, 10) FROM t0 p, t1 q WHERE NOT p.c0 = 1;\n\
+        VIEW v3 AS SELECT a.c0, SUM(CASE WHEN a.c1 <= 1 THEN 1 ELSE 2 * a.c1 END) FROM v2 a\n\
+        GROUP BY a.c0 HAVING COUNT(a.c1) = 1;\n\
+        VIEW v4 AS v2 UNION v3;\n\
+        VIEW v5 AS v4 INTERSECT v2;\n\
+        GOAL NEGATIVE v5;\n";
+    let rules = frames(&[
+        "01 02 02 03 0000 0003 ffff 0003",
+        "01 01 02 00 8000 8000 0000 0003",
+        "02 01 00 02 00 01 01 00",
+        "03 02 00 01 02 14 11 010000 000001 03 010000 00ffff 05 000a 010101",
+        "04 01 02 01 02 10 0000 11 07 00 010001 000001 010000 \
+         07 01 06 13 010001 000001 000001 04 000002 010001",
+        "05 02 03",
+        "06 04 02",
+        "07 05 01",
+    ]);
+    assert_eq!(assemble(readable), rules);
+    round_trip(rules.as_bytes(), "every statement");
+}
+
+#[test]
+fn left_out_conditions_are_true() {
+    let basic = "SELECT a.c0 FROM t0 a";
+    let aggregate = "SELECT COUNT(1) FROM t0 a GROUP BY ()";
+    let said = |text: &str| assemble(&with_view(text));
+    assert_eq!(said(basic), said(&format!("{basic} WHERE TRUE")));
+    assert_eq!(said(aggregate), said(&format!("{aggregate} HAVING TRUE")));
+    assert!(said("SELECT 1 FROM t0 a").contains("\n03"));
+    assert!(said("SELECT 1 FROM t0 a GROUP BY ()").contains("\n04"));
+}
+
+#[test]
+fn faults_of_views() {
+    let said = |definition: &str| fault(&with_view(definition));
+    let cases = [
+        (
+            "SELECT a.c0 FROM t0 a WHERE a.c0",
+            "an expression stands where a condition is due",
+        ),
+        (
+            "SELECT a.c0 < 1 FROM t0 a",
+            "a condition stands where an expression is due",
+        ),
+        (
+            "SELECT a.c0 + (1 = 1) FROM t0 a",
+            "a condition stands where an expression is due",
+        ),
+        (
+            "SELECT a.c0 FROM t0 a WHERE 1 < 2 < 3",
+            "`;` is due, but there is `<`",
+        ),
+        ("SELECT b.c0 FROM t0 a", "FROM has no item named `b`"),
+        (
+            "SELECT a.c2 FROM t0 a",
+            "no column c2 there: its last is c1",
+        ),
+        ("SELECT a.c0 FROM t0 a, t0 a", "two from items named `a`"),
+        (
+            "SELECT a.c0 FROM t0",
+            "a name such as a for the from item is due, but there is `;`",
+        ),
+        (
+            "SELECT a.c0 FROM v1 a",
+            "no relation v1 stands before this statement",
+        ),
+        (
+            "SELECT a.c0 FROM t00 a",
+            "a table or view such as t0 or v1 is due, but there is `t00`",
+        ),
+        ("SELECT a.c0", "SELECT without FROM"),
+        (
+            "SELECT a.c0 a.c1 FROM t0 a",
+            "FROM is due, but there is `a`",
+        ),
+        (
+            "SELECT FROM t0 a",
+            "an expression or a condition is due, but there is `FROM`",
+        ),
+        (
+            "SELECT COUNT(*) FROM t0 a",
+            "an expression or a condition is due, but there is `*`",
+        ),
+        ("SELECT a.c0 FROM t0 a HAVING TRUE", "HAVING needs GROUP BY"),
+        (
+            "SELECT a.c0 FROM t0 a WHERE a.c0 > 1",
+            "`>` is not used here: swap the sides and write <",
+        ),
+        (
+            "SELECT a.c0 FROM t0 a WHERE a.c0 <> 1",
+            "`<>` is not used here: write NOT (x = y)",
+        ),
+        (
+            "SELECT 32768 FROM t0 a",
+            "32768 is not from -32768 to 32767",
+        ),
+        (
+            "SELECT 99999999999 FROM t0 a",
+            "the number 99999999999 is too large",
+        ),
+        (
+            "SELECT 1e3 FROM t0 a",
+            "`1e3` is neither a number nor a name",
+        ),
+        ("SELECT ROUND(1, 0) FROM t0 a", "0 is not from 1 to 1000"),
+        ("SELECT 'x' FROM t0 a", "unknown character '\\''"),
+        (
+            "SELECT 1,1,1,1,1,1,1,1,1 FROM t0 a",
+            "there are more than 8 select expressions",
+        ),
+        (
+            "SELECT 1 FROM t0 a, t0 b, t0 c, t0 d",
+            "there are more than 3 from items",
+        ),
+        (
+            "t0 UNION t0",
+            "SELECT or a view such as v1 is due, but there is `t0`",
+        ),
+    ];
+    for (definition, expected) in cases {
+        let said = said(definition);
+        assert!(said.starts_with(&format!("line 2: {expected}")), "{said}");
+    }
+}
+
+#[test]
+fn faults_of_statements() {
+    let table = "TABLE t0 ROWS 1 (c0 0 .. 3);\n";
+    let view = "VIEW v1 AS SELECT a.c0 FROM t0 a;\n";
+    let goal = "GOAL POSITIVE v1;\n";
+    let cases = [
+        (String::new(), "line 1: the text ends without a goal"),
+        (
+            format!("{table}{view}"),
+            "line 2: the text ends without a goal",
+        ),
+        (format!("{table}{view}{table}"), "line 3: out of order"),
+        (
+            format!("{table}{view}{goal}\n-- and\n{goal}"),
+            "line 6: out of order",
+        ),
+        (format!("{table}{view}FOREIGN KEY"), "line 3: out of order"),
+        (
+            format!("{table}{table}"),
+            "line 2: the name t1 (relations are numbered in turn",
+        ),
+        (
+            format!("{table}VIEW v0"),
+            "line 2: the name v1 (relations are numbered in turn",
+        ),
+        (
+            format!("{table}GOAL POSITIVE t0;"),
+            "line 2: a view such as v1 is due",
+        ),
+        (
+            format!("{table}GOAL v0;"),
+            "line 2: POSITIVE or NEGATIVE is due",
+        ),
+        (
+            format!("{table}SELECT 1"),
+            "line 2: TABLE, FOREIGN KEY, VIEW or GOAL is due",
+        ),
+        (
+            "TABLE t0 ROWS 1 (c1 0 .. 3);".to_owned(),
+            "line 1: the name c0 (columns are",
+        ),
+        (
+            "TABLE t0 ROWS 1\n(c0 0 3);".to_owned(),
+            "line 2: `..` is due, but there is `3`",
+        ),
+        (
+            "TABLE t0 ROWS 1 (c0 0 .. 3)".to_owned(),
+            "line 1: `;` is due, but there is the end",
+        ),
+        (
+            format!("{table}FOREIGN KEY t0 (c0) REFERENCES t0 (c0, c0);"),
+            "line 2: 1 columns refer",
+        ),
+    ];
+    for (readable, expected) in cases {
+        let said = fault(&readable);
+        assert!(said.starts_with(expected), "{said}, for\n{readable}");
+    }
+}
+
+#[test]
+fn bytes_that_are_no_text() {
+    let fault = rulefile::assemble(b"-- one\nTABLE \xff").expect_err("no text");
+    assert_eq!(fault.to_string(), "line 2: these bytes are no UTF-8 text");
+}
+
+#[test]
+fn endless_trees() {
+    let many = 100_000;
+    let nested = format!("SELECT {}1{} FROM t0 a", "(".repeat(many), ")".repeat(many));
+    let long = format!("SELECT 1{} FROM t0 a", " + 1".repeat(many));
+    let nots = format!("SELECT 1 FROM t0 a WHERE {} TRUE", "NOT ".repeat(many));
+    let rounds = format!("SELECT {} FROM t0 a", "ROUND(".repeat(many));
+    for definition in [nested, long, nots, rounds] {
+        let said = fault(&with_view(&definition));
+        assert_eq!(
+            said,
+            "line 2: too many operators and parentheses for one frame"
+        );
+    }
+}
+
+/// Frames that would be refused are given, with the refusal.
+#[test]
+fn refused_frames() {
+    let readable = with_view("\n  SELECT SUM(a.c0)\n  FROM t0 a");
+    let assembled = rulefile::assemble(readable.as_bytes()).expect("frames");
+    assert!(assembled.frames.starts_with(b"0102"));
+    let refusal = assembled.refusal.expect("a refusal");
+    let begin =
+        "refused by 7 at the statement of line 2\n    VIEW v1 AS\n7 means: the rule on aggr";
+    assert!(refusal.starts_with(begin), "{refusal}");
+    let long = with_view(&format!("SELECT 1{} FROM t0 a", " + 1".repeat(40)));
+    let refusal = rulefile::assemble(long.as_bytes()).expect("frames").refusal;
+    assert!(refusal.is_some_and(|it| it.starts_with("refused by 2 at the statement of line 2\n")));
+}
+
+/// The texts shown in the README are as it says.
+#[test]
+fn readme() {
+    let readme = include_str!("../README.md");
+    let plain = readme.replace("\n    ", "\n");
+    assert!(plain.contains(&common::explain(EXAMPLE)));
+    let begin = plain.find("TABLE t0 ROWS 2").expect("a text");
+    let goal = "GOAL NEGATIVE v5;\n";
+    let end = plain.find(goal).expect("its end") + goal.len();
+    let assembled = rulefile::assemble(&plain.as_bytes()[begin..end]).expect("frames");
+    assert_eq!(assembled.refusal, None);
+}
