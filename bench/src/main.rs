@@ -46,14 +46,14 @@ fn look(search: &str, text: &[u8], count: u64) {
     }
 }
 
-/// Candidates searched in a second, in millions: the best of three looks.
+/// Candidates searched in a second, in millions: the best of five looks.
 fn speed(search: &str, text: &[u8], count: u64) -> f64 {
     let time = || {
         let begin = Instant::now();
         look(search, text, count);
         begin.elapsed().as_secs_f64()
     };
-    let best = (0..3).map(|_| time()).fold(f64::INFINITY, f64::min);
+    let best = (0..5).map(|_| time()).fold(f64::INFINITY, f64::min);
     count as f64 / 1e6 / best
 }
 
@@ -77,6 +77,8 @@ fn counted(search: &str, name: &str, count: u64) -> f64 {
         .output()
         .expect("valgrind");
     let said = String::from_utf8_lossy(&output.stderr);
+    // A run that was ended early says a count too.
+    assert!(output.status.success(), "{}: {said}", output.status);
     let count = said
         .split_once("Collected : ")
         .map(|(_, rest)| rest.lines());
