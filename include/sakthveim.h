@@ -1,6 +1,7 @@
 /* A look at a rule file, as proved functions on plain numbers. Link with libexport.a, which `rt staticlib export` writes to
  * target/staticlib/. No function has a precondition: any text, any lengths, any start and any count are answered. A slice is a pointer
- * and the number of its elements; the pointer of an empty slice may be anything but null. */
+ * and the number of its elements; the pointer of an empty slice may be anything but null. The slices lent to one call must not
+ * overlap, and each must be as long as the caller says: nothing else is asked of a caller. */
 #ifndef SAKTHVEIM_H
 #define SAKTHVEIM_H
 
