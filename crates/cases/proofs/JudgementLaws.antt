@@ -8,7 +8,6 @@ use lib.Dec.{ltb, eqb}
 use lib.IntN.{ℤ}
 use lib.ListN.{length, getD, set, length-set}
 use lib.Seq.{getD-set-same, getD-set-other}
-use borrow.Author.Tests.{lt-ltb}
 use Rattle.value.proofs.Decides.{by-test}
 use Rattle.meaning.specs.Lists.{isPos, any}
 use Rattle.meaning.specs.Syntax.{Table, File, Database}
@@ -29,6 +28,7 @@ use Rattle.cases.specs.Validity.{Validates}
 use Rattle.cases.specs.Judgement.{SignNoted, RowsNoted, Known, Ready, TablesKept, Evaluates, Verdict, Judges}
 use Rattle.cases.specs.declared.outline.Outline.{Outline}
 use Rattle.cases.proofs.ValidLaws.{table-width}
+use Rattle.cases.proofs.SignLaws.{positive}
 use Rattle.cases.proofs.Turns.{turn-known}
 
 -- ---- notes
@@ -135,10 +135,6 @@ module _ {bytes starts shape needed asked : List ℕ} {o : Outline} {counts refu
   }
 
 -- ---- the verdict
-
-positive : (n : ℕ) → ltb 0 n ≡ isPos n
-positive zero = refl
-positive (suc n) = lt-ltb 0 (suc n) (omega arith)
 
 module _ {o : Outline} {counts refuted : List ℕ} where
   pub verdict-sign : o .negative ≡ true → {b : ℕ} → b ≡ getD refuted (o .goal) 0 → Verdict o counts refuted (eqb b 1)

@@ -1,6 +1,6 @@
 -- The search of a stretch of candidates, from what a test and a move give. Assumes nothing.
 use mathlib.Core.Path.{_≡_, refl, sym, ap, subst, _∙_}
-use mathlib.Core.Bool.{Bool, true, false, true≢false}
+use mathlib.Core.Bool.{Bool, true, false}
 use mathlib.Core.List.{List, [], _∷_, _++_, map}
 use Prim.Native.Nat.{ℕ, zero, suc, _+_, _*_, _-_, _/_, _%_, _≤_, _<_}
 use native.Mathlib.Nat.{div-lt-iff-lt-mul}
@@ -25,6 +25,7 @@ use Rattle.rules.proofs.LegalAccepted.{legal-wellFormed}
 use Rattle.store.specs.Layout.{area, cellIn}
 use Rattle.store.specs.Rows.{listed, rowsIn}
 use Rattle.store.proofs.RowLaws.{cell-of-rows}
+use Rattle.views.proofs.Marking.{never}
 use Rattle.cases.specs.Given.{Given, TablesIn, TablesCounted}
 use Rattle.cases.specs.Needs.{Covers, NeedsOf}
 use Rattle.cases.specs.Judgement.{Ready, TablesKept, Judges}
@@ -35,9 +36,6 @@ use Rattle.look.specs.Moves.{Digits, Placed, Moved}
 use Rattle.look.specs.Scans.{Passed, Plan, At, Tests, Scans, Searches}
 use Rattle.look.proofs.Distinct.{Rising, rising-within, codes-inside}
 use Rattle.look.proofs.Standing.{tables-stand}
-
-never : {A : Type 0} {b : Bool} → b ≡ true → b ≡ false → A
-never t f = absurd (true≢false (sym t ∙ f))
 
 -- ---- cells of tables that stay
 
