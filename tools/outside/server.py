@@ -9,7 +9,7 @@ from pathlib import Path
 
 SETTINGS = {"listen_addresses": "''", "fsync": "off", "jit": "off", "autovacuum": "off", "shared_buffers": "32MB"}
 # Small tables need no search for the best order of joins.
-SETTINGS = """SET join_collapse_limit = 1;
+OPENING = """SET join_collapse_limit = 1;
 SET from_collapse_limit = 1;
 SET client_min_messages = warning;
 SET statement_timeout = '120s';
@@ -93,6 +93,6 @@ class Server:
         words = ["-X", "-q", "-A", "-t", "-F", " ", "-v", "ON_ERROR_STOP=1"]
         words += ["-h", self.place, "-U", "check", "-d", "postgres", "-f", "-"]
         try:
-            return self.run("psql", *words, input=SETTINGS + script).splitlines()
+            return self.run("psql", *words, input=OPENING + script).splitlines()
         except Failure as failure:
             raise Failure(f"{name}: {failure}") from failure
