@@ -1,0 +1,74 @@
+-- What an entry says follows from equations of what computes. Assumes nothing.
+use mathlib.Core.Path.{_≡_}
+use mathlib.Core.Bool.{true, cond}
+use mathlib.Core.List.{List, _++_, map}
+use Prim.Native.Nat.{ℕ, _+_, _≤_}
+use native.Mathlib.Omega.{arith}
+use borrow.Author.Tests.{le-ltb}
+use lib.Dec.{ltb}
+use lib.IntN.{ℤ, pos}
+use lib.ListN.{length, drop, replicate, length-replicate}
+use Rattle.value.specs.Integer.{maxZ, minZ, roundZ, signedOf, stepsUp}
+use Rattle.value.specs.Value.{Value, between, compare, digit, finish, holds, more, negate, round, sameValue, shown, size, start, sure, weight}
+use Rattle.value.proofs.Decides.{dec-true}
+use Rattle.meaning.specs.Syntax.{File}
+use Rattle.meaning.specs.Reading.{deepE, readE, readC}
+use Rattle.meaning.specs.Rows.{rows}
+use Rattle.meaning.specs.Valid.{valid}
+use Rattle.meaning.specs.Cases.{isCase, someRow}
+use Rattle.meaning.specs.Candidates.{cellCount, candidates, cells, database}
+use Rattle.meaning.specs.Look.{Answer, After, workSize, refusal, zeros, candidate, searched, look}
+use Rattle.meaning.proofs.DecidedLists.{ltb-dec}
+use Rattle.meaning.proofs.Relations.{rows-mean}
+use Rattle.text.specs.Text.{framesOf, linesOf, run, step, digit as hexValue}
+use Rattle.rules.specs.Check.{Outcome, checkFrame, checkFrames}
+use Rattle.rules.specs.FileOf.{fileOf}
+use Rattle.look.proofs.RealLooks.{look-of-text, any-start}
+use Rattle.marked.specs.Table.{Entry, Gives, Judges, Right}
+
+-- ---- a look
+
+-- what is left of a look where the buffers are long enough
+abbrev fitting : File → ℕ → ℕ → List ℤ → List ℤ → After
+fitting F start count work inst = cond (ltb (candidates F) start) (refusal 13 work inst) (searched F start count work inst)
+
+look-fits : (F : File) (start count : ℕ) (work inst : List ℤ) → workSize ≤ length work → cellCount F ≤ length inst
+    → look F start count work inst ≡ fitting F start count work inst
+unfolding look
+look-fits F start count work inst h i = rw (le-ltb (length work) workSize h, le-ltb (length inst) (cellCount F) i)
+
+module _ (text : List ℕ) (F : File) (e : fileOf text ≡ Outcome.accepted F) (s c : ℕ) (a : Answer) (shows : List ℤ) where
+  gives : ((work inst : List ℤ) → fitting F s c work inst ≡ After.after a (zeros work) (shows ++ drop (length shows) inst)) → Gives text s c a shows F
+  gives f work inst h i = rw (look-of-text text F e, look-fits F s c work inst h i) (f work inst)
+
+  -- by the law on looks from any start, at some buffers that are long enough
+  judges : Gives text s c a shows F → Judges s a F
+  judges g =
+      let work = replicate workSize (pos 0) in
+      let inst = replicate (cellCount F) (pos 0) in
+      let q = g work inst (omega (arith, length-replicate workSize (pos 0))) (omega (arith, length-replicate (cellCount F) (pos 0))) in
+      (any-start text F e .none s c work inst a _ _ q, λ k l. any-start text F e .hit s c work inst k _ _ (rw l at q) .2)
+
+-- ---- an entry
+
+-- what there is to compute of an entry. To unfold this is to unfold the names of its line
+unfoldable pub Computed : ℕ × Entry → Type 0
+unfolding
+    fileOf framesOf linesOf run step hexValue checkFrames checkFrame readE readC deepE signedOf minZ maxZ candidates size
+    candidate isCase valid someRow database cells digit shown between sameValue compare round roundZ stepsUp sure holds negate start weight more finish
+Computed (m, Entry.looked text s c a shows) = (F : File) × (fileOf text ≡ Outcome.accepted F)
+    × ((work inst : List ℤ) → fitting F s c work inst ≡ After.after a (zeros work) (shows ++ drop (length shows) inst))
+Computed (m, Entry.viewed text k v rs) = (F : File) × (fileOf text ≡ Outcome.accepted F)
+    × (ltb k (candidates F) ≡ true) × (ltb v (length (F .tables) + length (F .views)) ≡ true) × (rows F (database F k) v ≡ map (map Value.number) rs)
+Computed (m, Entry.accepted text n) = (F : File) × (fileOf text ≡ Outcome.accepted F) × (candidates F ≡ n)
+Computed (m, Entry.refused text n l) = fileOf text ≡ Outcome.refused n l
+
+pub right : (x : ℕ × Entry) → Computed x → Right (x .1)
+unfolding Computed Right
+right (m, Entry.looked text s c a shows) (F, e, f) =
+    let g = gives text F e s c a shows f in
+    (F, e, g, judges text F e s c a shows g)
+right (m, Entry.viewed text k v rs) (F, e, n, l, r) =
+    (F, e, (dec-true (ltb-dec _ _) n, dec-true (ltb-dec _ _) l, rw r at (rows-mean F (database F k) v), r))
+right (m, Entry.accepted text n) c = c
+right (m, Entry.refused text n l) c = c
