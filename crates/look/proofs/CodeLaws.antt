@@ -155,7 +155,7 @@ codes-of F =
 
 -- ---- as many as there are cells, and few in legal tables
 
-length-copies : {A : Type 0} (n : ℕ) (xs : List A) → length (copies n xs) ≡ n * length xs
+pub length-copies : {A : Type 0} (n : ℕ) (xs : List A) → length (copies n xs) ≡ n * length xs
 length-copies zero xs = sym (zero-mul (length xs))
 length-copies (suc n) xs = length-append xs (copies n xs) ∙ omega (arith, length-copies n xs, suc-mul n (length xs))
 

@@ -48,16 +48,16 @@ module _ (F : File) (start count : ℕ) (work inst : List ℤ) where
   unfolding look
   look-late h i l = rw (le-ltb (length work) workSize h, le-ltb (length inst) (cellCount F) i, lt-ltb (candidates F) start l)
 
-  look-on : (end : ℕ) → workSize ≤ length work → cellCount F ≤ length inst → start ≤ candidates F → end ≡ min (start + count) (candidates F)
+  pub look-on : (end : ℕ) → workSize ≤ length work → cellCount F ≤ length inst → start ≤ candidates F → end ≡ min (start + count) (candidates F)
       → look F start count work inst ≡ verdict F end (seek (candidate F) start (end - start)) work inst
   unfolding look
   look-on end h i l e = rw (e, le-ltb (length work) workSize h, le-ltb (length inst) (cellCount F) i, le-ltb (candidates F) start l)
 
 module _ (F : File) (work inst : List ℤ) where
-  verdict-case : (end k : ℕ) → k < end → verdict F end k work inst ≡ After.after (Answer.case k) (zeros work) (shownIn F k inst)
+  pub verdict-case : (end k : ℕ) → k < end → verdict F end k work inst ≡ After.after (Answer.case k) (zeros work) (shownIn F k inst)
   verdict-case end k h = rw (lt-ltb k end h)
 
-  verdict-none : (end k : ℕ) → end ≤ k
+  pub verdict-none : (end k : ℕ) → end ≤ k
       → verdict F end k work inst ≡ After.after (cond (eqb end (candidates F)) Answer.noCase (Answer.spent end)) (zeros work) inst
   verdict-none end k h = rw (le-ltb k end h)
 

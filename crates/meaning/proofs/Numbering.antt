@@ -56,11 +56,11 @@ flat d = joined (map joined d)
 drop-row : {A : Type 0} (n w : ℕ) (xs : List A) → drop (suc n * w) xs ≡ drop (n * w) (drop w xs)
 drop-row n w xs = rw (suc-mul n w, drop-drop, add-comm (n * w) w)
 
-length-cutRows : {A : Type 0} (n w : ℕ) (xs : List A) → length (cutRows n w xs) ≡ n
+pub length-cutRows : {A : Type 0} (n w : ℕ) (xs : List A) → length (cutRows n w xs) ≡ n
 length-cutRows zero w xs = refl
 length-cutRows (suc n) w xs = ap suc (length-cutRows n w (drop w xs))
 
-joined-cutRows : {A : Type 0} (n w : ℕ) (xs : List A) → joined (cutRows n w xs) ≡ take (n * w) xs
+pub joined-cutRows : {A : Type 0} (n w : ℕ) (xs : List A) → joined (cutRows n w xs) ≡ take (n * w) xs
 joined-cutRows zero w xs = rw (zero-mul w)
 joined-cutRows (suc n) w xs = rw (joined-cutRows n w (drop w xs), suc-mul n w, add-comm (n * w) w) (sym (take-add w (n * w) xs))
 

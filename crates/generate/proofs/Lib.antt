@@ -1,0 +1,2 @@
+-- The laws of reading the input.
+pub mod InputLaws

@@ -1,0 +1,52 @@
+-- The lines of a case of an accepted text. Assumes nothing.
+use mathlib.Core.Path.{_≡_, ap, subst, _∙_}
+use mathlib.Core.List.{List, [], _∷_, map}
+use Prim.Native.Nat.{ℕ, _≤_}
+use native.Mathlib.Omega.{arith}
+use lib.IntN.{ℤ}
+use lib.ListN.{length, take}
+use Rattle.value.specs.Value.{shown}
+use Rattle.meaning.specs.Syntax.{File}
+use Rattle.meaning.specs.Candidates.{cellCount, cells, database}
+use Rattle.meaning.proofs.Numbering.{length-cells}
+use Rattle.text.specs.Text.{line}
+use Rattle.text.specs.Answers.{Written}
+use Rattle.text.proofs.Writing.{length-line}
+use Rattle.rules.specs.Check.{Outcome}
+use Rattle.rules.specs.FileOf.{fileOf}
+use Rattle.rules.specs.Plans.{Plans, PlanOf}
+use Rattle.rules.specs.declared.plan.Plan.{Plan}
+use Rattle.rules.proofs.TextLaws.{accepted-text}
+use Rattle.cases.proofs.OutlineLaws.{bound-is}
+use Rattle.cases.proofs.ValidLaws.{table-width}
+use Rattle.report.specs.Output.{caseFrame}
+use Rattle.report.specs.Lines.{Grown, Tabled, TablesLined, CaseLined}
+use Rattle.report.proofs.LineLaws.{text-one, grown-line, grown-more}
+
+module _ (text : List ℕ) (p : Plan) (P : Plans (fileOf text) p) where
+  -- the plan of an accepted text says where the cells of a candidate stand
+  tabled : (F : File) (k : ℕ) {shows : List ℤ} → fileOf text ≡ Outcome.accepted F → cellCount F ≤ length shows
+      → take (cellCount F) shows ≡ map shown (cells F k) → Tabled F (cells F k) (p .shape) (p .tables) shows
+  tabled F k {shows} e room same =
+      let Q : PlanOf F p = subst (λ (o : Outcome). Plans o p) e P in
+      let n : length (cells F k) ≡ cellCount F = length-cells F k in
+      record {
+        legal = accepted-text text F e .legal;
+        number = Q .tables;
+        rows = λ t h. Q .bounds t ∙ bound-is F t (omega (arith, h, Q .tables));
+        columns = λ t h. Q .widths t ∙ table-width F t (omega (arith, h, Q .tables));
+        count = n;
+        room = omega (arith, n, room);
+        shows = ap (λ i. take i shows) n ∙ same;
+      }
+
+  pub case-lined : {k : ℕ} {shows : List ℤ} {f out out₁ out′ : List ℕ} {at r : ℕ} → f ≡ caseFrame k → Written f 0 out at out₁
+      → TablesLined (p .shape) (p .tables) shows at out₁ r out′ → CaseLined text k shows out r out′
+  unfolding database
+  case-lined {k} {shows} {f} {out} {out₁} {out′} {at} {r} own w L = record {
+    lined = λ F e fits same room.
+        let n : length (line (caseFrame k)) ≡ 11 = length-line (caseFrame k) in
+        let g : Grown (caseFrame k ∷ []) 0 out at out₁ = grown-line (subst (λ (l : List ℕ). Written l 0 out at out₁) own w) (omega (arith, n, room)) in
+        let here : at ≡ 11 = omega (arith, g .next, ap length (text-one (caseFrame k)), n) in
+        grown-more g (L .lined F (cells F k) (tabled F k e fits same) (omega (arith, here, room, g .size)));
+  }

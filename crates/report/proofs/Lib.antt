@@ -1,0 +1,6 @@
+-- The laws of the program's output.
+pub mod LineLaws
+pub mod TableLaws
+pub mod CaseLaws
+pub mod OutputLaws
+pub mod Program

@@ -1,0 +1,198 @@
+-- The program's output from the answer to its look, and the output's length. Assumes nothing.
+use mathlib.Core.Path.{_≡_, refl, sym, ap, subst, _∙_}
+use mathlib.Core.Bool.{cond}
+use mathlib.Core.List.{List, [], _∷_, map}
+use Prim.Native.Nat.{ℕ, _+_, _-_, _≤_, _<_, min}
+use native.Mathlib.Omega.{arith}
+use borrow.Author.Tests.{le-ltb, lt-ltb, ltb-true, ltb-false, eq-eqb}
+use lib.Dec.{ltb}
+use lib.IntN.{ℤ}
+use lib.ListN.{length, take, drop, length-append, length-drop, length-map}
+use lib.Seq.{take-at}
+use Rattle.value.specs.Value.{shown}
+use Rattle.value.proofs.Decides.{by-test}
+use Rattle.meaning.specs.Syntax.{File}
+use Rattle.meaning.specs.Candidates.{cellCount, candidates, cells}
+use Rattle.meaning.specs.Look.{Answer, After, numberOf, seek, zeros, workSize, candidate, shownIn, verdict, look}
+use Rattle.meaning.proofs.Numbering.{length-cells}
+use Rattle.text.specs.Answers.{Written}
+use Rattle.text.proofs.Writing.{length-line}
+use Rattle.rules.specs.Check.{Outcome}
+use Rattle.rules.specs.FileOf.{fileOf}
+use Rattle.rules.specs.Legal.{Legal}
+use Rattle.rules.proofs.TextLaws.{accepted-text}
+use Rattle.look.specs.Looks.{answerOf, lookOf}
+use Rattle.look.specs.declared.Answer.{Answer as Answered}
+use Rattle.look.specs.declared.Answer.the-variants.{Case, NoCase, Spent, Refused}
+use Rattle.look.proofs.CodeLaws.{codes-few}
+use Rattle.look.proofs.LookLaws.{look-on}
+use Rattle.look.proofs.RealLooks.{look-of-text}
+use Rattle.report.specs.Output.{noCaseFrame, refusalFrame, answerFrames, searchedAll, outcomeFrames, outputOf}
+use Rattle.report.specs.Lines.{outputRoom, Printed, Grown, CaseLined}
+use Rattle.report.proofs.LineLaws.{grown-line, grown-whole}
+
+-- ---- a look at a file from 0 to the end
+
+module _ (F : File) where
+  abbrev pub first : ℕ
+  first = seek (candidate F) 0 (candidates F)
+
+  pub all-case : first < candidates F → searchedAll F ≡ Answer.case first
+  unfolding searchedAll
+  all-case h = rw (lt-ltb first (candidates F) h)
+
+  pub all-none : candidates F ≤ first → searchedAll F ≡ Answer.noCase
+  unfolding searchedAll
+  all-none h = rw (le-ltb first (candidates F) h)
+
+  -- the instance buffer after it
+  abbrev pub shownAll : List ℤ → List ℤ
+  shownAll inst = cond (ltb first (candidates F)) (shownIn F first inst) inst
+
+  -- the answer's number
+  answered : {P : Type 0} (x : Answer) → x ≡ searchedAll F → (numberOf x ≡ 0x80 → P) → (numberOf x ≡ 0x82 → P) → P
+  answered x e here none =
+      by-test (ltb first (candidates F)) (λ t. here (ap numberOf (e ∙ all-case (ltb-true _ _ t)))) (λ t. none (ap numberOf (e ∙ all-none (ltb-false _ _ t))))
+
+  pub whole-look : (count : ℕ) (work inst : List ℤ) → candidates F ≤ count → workSize ≤ length work → cellCount F ≤ length inst
+      → look F 0 count work inst ≡ After.after (searchedAll F) (zeros work) (shownAll inst)
+  unfolding searchedAll
+  whole-look count work inst many whole room =
+      let n = candidates F in
+      let from : 0 ≤ n = omega arith in
+      let to : n ≡ min (0 + count) n = omega arith in
+      let span : n - 0 ≡ n = omega arith in
+      look-on F 0 count work inst n whole room from to ∙ ap (λ i. verdict F n (seek (candidate F) 0 i) work inst) span
+      ∙ by-test (ltb first n) (λ e. rw e) (λ e. rw (e, eq-eqb n n refl))
+
+-- ---- a look at a text from 0 to the end
+
+abbrev answerIn : After → Answer
+answerIn (After.after x w i) = x
+
+abbrev instIn : After → List ℤ
+instIn (After.after x w i) = i
+
+abbrev caseIn : Answer → ℕ
+caseIn (Answer.case k) = k
+caseIn Answer.noCase = 0
+caseIn (Answer.spent next) = 0
+caseIn (Answer.refused n l) = 0
+
+abbrev refusalIn : Answer → List (List ℕ)
+refusalIn (Answer.case k) = []
+refusalIn Answer.noCase = []
+refusalIn (Answer.spent next) = []
+refusalIn (Answer.refused n l) = refusalFrame n l ∷ []
+
+-- case k of an accepted text, whose cells the buffer begins with
+pub record FoundCase (text : List ℕ) (k : ℕ) (inst : List ℤ) : Type 0 where
+  pub file : File
+  pub accepted : fileOf text ≡ Outcome.accepted file
+  pub answer : searchedAll file ≡ Answer.case k
+  pub room : cellCount file ≤ length inst
+  pub shows : take (cellCount file) inst ≡ map shown (cells file k)
+
+-- what the answer to the whole search says of the output
+pub record Said (text : List ℕ) (x : Answer) (inst : List ℤ) : Type 0 where
+  pub case : (k : ℕ) → x ≡ Answer.case k → FoundCase text k inst
+  pub none : x ≡ Answer.noCase → outcomeFrames (fileOf text) ≡ noCaseFrame ∷ []
+  pub refused : (n l : ℕ) → x ≡ Answer.refused n l → outcomeFrames (fileOf text) ≡ refusalFrame n l ∷ []
+  pub spent : (next : ℕ) → x ≡ Answer.spent next → ⊥
+
+module _ (text : List ℕ) (count : ℕ) (work inst : List ℤ) (x : Answer) (w i : List ℤ) (many : 16777216 ≤ count) (whole : workSize ≤ length work)
+    (room : 512 ≤ length inst) (looked : After.after x w i ≡ lookOf text 0 count work inst) where
+  -- 512 numbers are enough for the cells of any file
+  cells-fit : (F : File) → fileOf text ≡ Outcome.accepted F → cellCount F ≤ length inst
+  cells-fit F e =
+      let l : Legal F = accepted-text text F e .legal in
+      omega (arith, codes-few (l .tables), l .relationCount, room)
+
+  accepted-all : (F : File) → fileOf text ≡ Outcome.accepted F → After.after x w i ≡ After.after (searchedAll F) (zeros work) (shownAll F inst)
+  accepted-all F e =
+      looked ∙ ap (λ (f : ℕ → ℕ → List ℤ → List ℤ → After). f 0 count work inst) (look-of-text text F e)
+      ∙ whole-look F count work inst (omega (arith, accepted-text text F e .legal .number, many)) whole (cells-fit F e)
+
+  refused-all : (n l : ℕ) → fileOf text ≡ Outcome.refused n l → x ≡ Answer.refused n l
+  unfolding lookOf
+  refused-all n l e =
+      let a : lookOf text 0 count work inst ≡ After.after (Answer.refused n l) work inst = rw (le-ltb (length work) workSize whole, e) in
+      ap answerIn (looked ∙ a)
+
+  found : (k : ℕ) → x ≡ Answer.case k → (o : Outcome) → fileOf text ≡ o → FoundCase text k i
+  found k c (Outcome.refused n l) e = absurd (omega (arith, ap numberOf (sym c ∙ refused-all n l e)))
+  found k c (Outcome.accepted F) e =
+      let a : x ≡ searchedAll F = ap answerIn (accepted-all F e) in
+      let b : i ≡ shownAll F inst = ap instIn (accepted-all F e) in
+      by-test (ltb (first F) (candidates F))
+      (λ t. let at : first F ≡ k = ap caseIn (sym (all-case F (ltb-true _ _ t)) ∙ sym a ∙ c) in
+      let front : shownAll F inst ≡ shownIn F (first F) inst = rw t in
+      let n : length (map shown (cells F k)) ≡ cellCount F = length-map (cells F k) shown ∙ length-cells F k in
+      let own : i ≡ shownIn F k inst = b ∙ front ∙ ap (λ j. shownIn F j inst) at in
+      record {
+        file = F;
+        accepted = e;
+        answer = sym a ∙ c;
+        room = omega (arith, ap length own, length-append (map shown (cells F k)) (drop (cellCount F) inst), n);
+        shows = ap (take (cellCount F)) own ∙ take-at (map shown (cells F k)) (drop (cellCount F) inst) (cellCount F) n;
+      })
+      (λ t. absurd (omega (arith, ap numberOf (sym c ∙ a ∙ all-none F (ltb-false _ _ t)))))
+
+  none : x ≡ Answer.noCase → (o : Outcome) → fileOf text ≡ o → outcomeFrames o ≡ noCaseFrame ∷ []
+  none c (Outcome.refused n l) e = absurd (omega (arith, ap numberOf (sym c ∙ refused-all n l e)))
+  none c (Outcome.accepted F) e = ap (answerFrames F) (sym (ap answerIn (accepted-all F e)) ∙ c)
+
+  refused : (n l : ℕ) → x ≡ Answer.refused n l → (o : Outcome) → fileOf text ≡ o → outcomeFrames o ≡ refusalFrame n l ∷ []
+  refused n l c (Outcome.refused m j) e = ap refusalIn (sym (refused-all m j e) ∙ c)
+  refused n l c (Outcome.accepted F) e =
+      answered F x (ap answerIn (accepted-all F e)) (λ t. absurd (omega (arith, ap numberOf c, t))) (λ t. absurd (omega (arith, ap numberOf c, t)))
+
+  spent : (next : ℕ) → x ≡ Answer.spent next → (o : Outcome) → fileOf text ≡ o → ⊥
+  spent next c (Outcome.refused n l) e = absurd (omega (arith, ap numberOf (sym c ∙ refused-all n l e)))
+  spent next c (Outcome.accepted F) e =
+      answered F x (ap answerIn (accepted-all F e)) (λ t. absurd (omega (arith, ap numberOf c, t))) (λ t. absurd (omega (arith, ap numberOf c, t)))
+
+  pub said : Said text x i
+  said = record {
+    case = λ k c. found k c (fileOf text) refl;
+    none = λ c. none c (fileOf text) refl;
+    refused = λ n l c. refused n l c (fileOf text) refl;
+    spent = λ next c. spent next c (fileOf text) refl;
+  }
+
+-- ---- the output
+
+module _ (text out : List ℕ) where
+  pub printed-short : length out < outputRoom → Printed text out 0 out
+  printed-short h = record { length-is = rw (lt-ltb (length out) outputRoom h); left = rw (lt-ltb (length out) outputRoom h) }
+
+  printed : {fs : List (List ℕ)} {out′ : List ℕ} {r : ℕ} → outputRoom ≤ length out → outcomeFrames (fileOf text) ≡ fs → Grown fs 0 out r out′ → Printed text out r out′
+  unfolding outputOf
+  printed {fs} {out′} {r} h e g =
+      let (n, l) = grown-whole g in
+      record { length-is = rw (le-ltb (length out) outputRoom h, e) n; left = rw (le-ltb (length out) outputRoom h, e) l }
+
+  -- the line of an answer without a case
+  printed-line : {f out′ : List ℕ} {r : ℕ} → outputRoom ≤ length out → outcomeFrames (fileOf text) ≡ f ∷ [] → length f ≤ 4 → Written f 0 out r out′ → Printed text out r out′
+  printed-line {f} h e n w = printed h e (grown-line w (omega (arith, length-line f, n, h)))
+
+  module _ {a : Answered} {inst : List ℤ} {out′ : List ℕ} {r : ℕ} (h : outputRoom ≤ length out) (S : Said text (answerOf a) inst) where
+    pub printed-case : {k : ℕ} → a ≡ Case k → CaseLined text k inst out r out′ → Printed text out r out′
+    printed-case {k} e L =
+        let C = S .case k (ap answerOf e) in
+        printed h (ap outcomeFrames (C .accepted) ∙ ap (answerFrames (C .file)) (C .answer)) (L .lined (C .file) (C .accepted) (C .room) (C .shows) h)
+
+    pub printed-none : a ≡ NoCase → Written noCaseFrame 0 out r out′ → Printed text out r out′
+    printed-none e w = printed-line h (S .none (ap answerOf e)) (omega arith) w
+
+    pub printed-refused : {n l : ℕ} {f : List ℕ} → a ≡ Refused n l → f ≡ refusalFrame n l → Written f 0 out r out′ → Printed text out r out′
+    printed-refused {n} {l} e g w = printed-line h (S .refused n l (ap answerOf e)) (omega arith) (subst (λ (f : List ℕ). Written f 0 out r out′) g w)
+
+    pub printed-spent : {next : ℕ} → a ≡ Spent next → Printed text out r out′
+    printed-spent {next} e = absurd (S .spent next (ap answerOf e))
+
+  -- what a caller of the function needs to read the output
+  pub printed-within : {out′ : List ℕ} {r : ℕ} → Printed text out r out′ → length out′ ≡ length out → r ≤ length out′
+  printed-within {out′} {r} p same =
+      by-test (ltb (length out) outputRoom) (λ e. omega (arith, rw e at (p .length-is)))
+      (λ e. let o = outputOf text in omega (arith, rw e at (p .length-is), rw e at (ap length (p .left)), length-append o (drop (length o) out), length-drop (length o) out, same))

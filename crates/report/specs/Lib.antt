@@ -1,0 +1,3 @@
+-- What a reader must believe of the program's output.
+pub mod Output
+pub mod Lines
