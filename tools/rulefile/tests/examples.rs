@@ -1,0 +1,83 @@
+//! `examples/`: each rule file is explained by its stored text and made from it; stored answers and
+//! refusals are understood.
+
+mod common;
+
+use common::round_trip;
+use rulefile::refusal::meaning;
+use rulefile::{answer, assemble, explain};
+use std::fs;
+use std::path::{Path, PathBuf};
+
+/// The rule files of a directory below `examples`.
+fn rule_files(below: &str) -> Vec<PathBuf> {
+    let home = Path::new(env!("CARGO_MANIFEST_DIR")).join("../../examples");
+    let entries = fs::read_dir(home.join(below)).expect("a directory");
+    let paths = entries.map(|entry| entry.expect("an entry").path());
+    let mut files: Vec<PathBuf> = paths
+        .filter(|path| path.extension().is_some_and(|it| it == "rules"))
+        .collect();
+    assert!(!files.is_empty());
+    files.sort();
+    files
+}
+
+fn bytes(path: &Path) -> Vec<u8> {
+    fs::read(path).unwrap_or_else(|error| panic!("{}: {error}", path.display()))
+}
+
+fn text(path: &Path) -> String {
+    String::from_utf8(bytes(path)).expect("text")
+}
+
+#[test]
+fn texts() {
+    for path in rule_files("") {
+        let (name, rules) = (path.display().to_string(), bytes(&path));
+        let readable = text(&path.with_extension("sql"));
+        assert_eq!(explain(&rules).as_ref(), Ok(&readable), "{name}");
+        let assembled = assemble(readable.as_bytes()).expect("frames");
+        assert!(assembled.frames == rules, "{name}");
+        assert_eq!(assembled.refusal, None, "{name}");
+        round_trip(&rules, &name);
+    }
+}
+
+/// The case number in words is the one of frame 80.
+#[test]
+fn answers() {
+    for path in rule_files("") {
+        let (name, stored) = (path.display(), text(&path.with_extension("answer")));
+        let shown = answer::explain(&bytes(&path), stored.as_bytes());
+        let shown = shown.unwrap_or_else(|why| panic!("{name}: {why}"));
+        let first = stored.lines().next().expect("a line");
+        let expected = match first.strip_prefix("80") {
+            Some(k) => format!("case {}\n\n", u32::from_str_radix(k, 16).expect("digits")),
+            None => "no case\n".to_owned(),
+        };
+        assert!(shown.starts_with(&expected), "{name}: {shown}");
+    }
+}
+
+/// A refusal says its number and line, and shows the line.
+#[test]
+fn refusals() {
+    for path in rule_files("refused") {
+        let (name, rules) = (path.display(), text(&path));
+        let stored = text(&path.with_extension("answer"));
+        let field = |at| usize::from_str_radix(&stored[at], 16).expect("digits");
+        let (number, line) = (field(2..4) as u8, field(4..8));
+        let place = match line {
+            0 => String::new(),
+            _ => {
+                let offending = rules.lines().nth(line - 1).expect("a line");
+                format!(" at line {line}\n    {offending}")
+            }
+        };
+        let expected = format!("refused by {number}{place}\n{number} means: ");
+        let expected = expected + meaning(number) + "\n";
+        assert_eq!(explain(rules.as_bytes()).as_ref(), Err(&expected), "{name}");
+        let shown = answer::explain(rules.as_bytes(), stored.as_bytes());
+        assert_eq!(shown, Ok(expected), "{name}");
+    }
+}
