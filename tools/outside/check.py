@@ -5,7 +5,7 @@
     python3 tools/outside/check.py [--files N] [--databases N] [--seed N] [PATH ...]
 
 Our rows and verdicts come from the proved evaluator, through compare/evaluation/examples/databases.rs, for the marked
-examples of document 01, the rule files in examples/ (if there is such a directory) and at the paths, and random files.
+examples of document 01, the rule files examples/*.rules, those at the paths, and random files.
 PostgreSQL's come from a private server on a local socket (server.py), over SQL made from the same rule file (sql.py) by a
 decoder that knows document 01 and none of our code (rulefile.py). Compared, for each database:
 
@@ -24,7 +24,6 @@ It is not part of .ci/run.
 """
 
 import argparse
-import re
 import signal
 import subprocess
 import sys
@@ -277,10 +276,8 @@ def write_marked(place):
 
 
 def example_files():
-    """What looks like a rule file in examples/."""
-    lines = re.compile(rb"([0-9a-f]+\n)+")
-    paths = sorted(path for path in (HOME / "examples").rglob("*") if path.is_file())
-    return [path for path in paths if lines.fullmatch(path.read_bytes())]
+    """The accepted rule files of examples/, not those in examples/refused."""
+    return sorted((HOME / "examples").glob("*.rules"))
 
 
 def evaluated(options, paths):
