@@ -109,7 +109,7 @@ fn case_lines(text: &[u8], k: u64, cells: &[i16], out: &mut [u8]) -> usize
 
 // What the program prints for a text, at the front of a buffer with room for any output, and its length; 0 for a shorter buffer, which
 // stays as it is.
-// Refused: 82 for a case; the line of a refusal as 0.
+// Refused: a search from candidate 1; 80 for no case.
 pub fn output(text: &[u8], out: &mut [u8]) -> usize
     ensures { λ r. ⌜ Printed (now (text .entry)) (now (out .entry)) r (now (out .exit)) ⌝ }
 {
