@@ -8,7 +8,7 @@ use borrow.Author.Tests.{le-ltb}
 use lib.Dec.{ltb}
 use lib.IntN.{ℤ, pos}
 use lib.ListN.{length, drop, replicate, length-replicate}
-use Rattle.value.specs.Integer.{maxZ, minZ, roundZ, signedOf, stepsUp}
+use Rattle.value.specs.Integer.{bitsOf, maxZ, minZ, roundZ, signedOf, stepsUp}
 use Rattle.value.specs.Value.{Value, between, compare, digit, finish, holds, more, negate, round, sameValue, shown, size, start, sure, weight}
 use Rattle.value.proofs.Decides.{dec-true}
 use Rattle.meaning.specs.Syntax.{File}
@@ -20,10 +20,11 @@ use Rattle.meaning.specs.Candidates.{cellCount, candidates, cells, database}
 use Rattle.meaning.specs.Look.{Answer, After, workSize, refusal, zeros, candidate, searched, look}
 use Rattle.meaning.proofs.DecidedLists.{ltb-dec}
 use Rattle.meaning.proofs.Relations.{rows-mean}
-use Rattle.text.specs.Text.{framesOf, linesOf, run, step, digit as hexValue}
+use Rattle.text.specs.Text.{framesOf, linesOf, run, step, digit as hexValue, textOf, line, hex, hexDigit}
 use Rattle.rules.specs.Check.{Outcome, checkFrame, checkFrames}
 use Rattle.rules.specs.FileOf.{fileOf}
 use Rattle.look.proofs.RealLooks.{look-of-text, any-start}
+use Rattle.report.specs.Output.{numberBytes, tableFrame, searchedAll, outputOf}
 use Rattle.marked.specs.Table.{Entry, Gives, Judges, Right}
 
 -- ---- a look
@@ -56,12 +57,14 @@ unfoldable pub Computed : ℕ × Entry → Type 0
 unfolding
     fileOf framesOf linesOf run step hexValue checkFrames checkFrame readE readC deepE signedOf minZ maxZ candidates size
     candidate isCase valid someRow database cells digit shown between sameValue compare round roundZ stepsUp sure holds negate start weight more finish
+    outputOf searchedAll tableFrame numberBytes bitsOf textOf line hex hexDigit
 Computed (m, Entry.looked text s c a shows) = (F : File) × (fileOf text ≡ Outcome.accepted F)
     × ((work inst : List ℤ) → fitting F s c work inst ≡ After.after a (zeros work) (shows ++ drop (length shows) inst))
 Computed (m, Entry.viewed text k v rs) = (F : File) × (fileOf text ≡ Outcome.accepted F)
     × (ltb k (candidates F) ≡ true) × (ltb v (length (F .tables) + length (F .views)) ≡ true) × (rows F (database F k) v ≡ map (map Value.number) rs)
 Computed (m, Entry.accepted text n) = (F : File) × (fileOf text ≡ Outcome.accepted F) × (candidates F ≡ n)
 Computed (m, Entry.refused text n l) = fileOf text ≡ Outcome.refused n l
+Computed (m, Entry.printed text output) = outputOf text ≡ output
 
 pub right : (x : ℕ × Entry) → Computed x → Right (x .1)
 unfolding Computed Right
@@ -72,3 +75,4 @@ right (m, Entry.viewed text k v rs) (F, e, n, l, r) =
     (F, e, (dec-true (ltb-dec _ _) n, dec-true (ltb-dec _ _) l, rw r at (rows-mean F (database F k) v), r))
 right (m, Entry.accepted text n) c = c
 right (m, Entry.refused text n l) c = c
+right (m, Entry.printed text output) c = c

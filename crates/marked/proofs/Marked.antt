@@ -15,11 +15,11 @@ Example m = All (λ x. Right (x .1)) (keep (λ x. eqb (x .0) m) table)
 
 m1 : Example 1
 unfolding Computed
-m1 = all-map right (All.cons (_, refl, λ work inst. refl) (All.cons (_, refl, λ work inst. refl) All.nil))
+m1 = all-map right (All.cons (_, refl, λ work inst. refl) (All.cons (_, refl, λ work inst. refl) (All.cons refl All.nil)))
 
 m2 : Example 2
 unfolding Computed
-m2 = all-map right (All.cons (_, refl, λ work inst. refl) (All.cons (_, refl, λ work inst. refl) All.nil))
+m2 = all-map right (All.cons (_, refl, λ work inst. refl) (All.cons (_, refl, λ work inst. refl) (All.cons refl All.nil)))
 
 m3 : Example 3
 unfolding Computed

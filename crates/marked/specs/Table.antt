@@ -16,6 +16,7 @@ use Rattle.meaning.specs.Looks.{CaseAt, upTo}
 use Rattle.rules.specs.Check.{Outcome}
 use Rattle.rules.specs.FileOf.{fileOf}
 use Rattle.look.specs.Looks.{lookOf}
+use Rattle.report.specs.Output.{outputOf}
 
 -- ---- entries, and what each says
 
@@ -28,6 +29,8 @@ pub data Entry : Type 0 where
   accepted : (text : List ℕ) (candidates : ℕ) → Entry
   -- refused by a number at a line
   refused : (text : List ℕ) (number line : ℕ) → Entry
+  -- what the program prints
+  printed : (text output : List ℕ) → Entry
 
 -- whatever buffers are lent, if they are long enough: the answer, a work area all zero, the cells, and every other number as it was
 abbrev pub Gives : List ℕ → ℕ → ℕ → Answer → List ℤ → File → Type 0
@@ -49,6 +52,7 @@ Right (looked text start count a cells) = (F : File) × (fileOf text ≡ Outcome
 Right (viewed text k v rs) = (F : File) × (fileOf text ≡ Outcome.accepted F) × Shows k v (map (map Value.number) rs) F
 Right (accepted text n) = (F : File) × (fileOf text ≡ Outcome.accepted F) × (candidates F ≡ n)
 Right (refused text n l) = fileOf text ≡ Outcome.refused n l
+Right (printed text output) = outputOf text ≡ output
 
 -- ---- texts: each with its file in SQL, where t is relation 0 and v1 is relation 1
 
@@ -106,9 +110,12 @@ table =
     -- "M1 the input above: count 9 from 0 is spent, next 9; count 10 is case 9"
     (1, looked (program "070200") 0 9 (Answer.spent 9) [])
     ∷ (1, looked (program "070200") 0 10 (Answer.case 9) (pos 9 ∷ []))
+    -- and that input "prints" its two lines
+    ∷ (1, printed (program "070200") (lines ("8000000009" ∷ "8100010009" ∷ [])))
     -- "M2 the same with 070201: no case": by the count that reaches N, and by the largest of 64 bits
     ∷ (2, looked (program "070201") 0 13 Answer.noCase [])
     ∷ (2, looked (program "070201") 0 0xffff_ffff_ffff_ffff Answer.noCase [])
+    ∷ (2, printed (program "070201") (lines ("82" ∷ [])))
     -- "M3 rounding by 10: 14, 15, -15, -14, 5, -5, 0 give 10, 20, -20, -10, 10, -10, 0"
     ∷ (3, viewed rounded 0 1 ((pos 10 ∷ pos 20 ∷ minus 20 ∷ minus 10 ∷ pos 10 ∷ minus 10 ∷ pos 0 ∷ []) ∷ []))
     -- "M4 a row found 2 and 1 times: union 3, intersection 1"
