@@ -9,6 +9,7 @@ use common::{text, EXAMPLE};
 use reference::gen::{self, Kind, Rng, Size, KINDS};
 use reference::{read, report, write};
 use std::collections::BTreeMap;
+use std::fs::File;
 use std::time::Duration;
 
 /// Damage may widen columns. A file with more candidates than this is left out.
@@ -207,4 +208,13 @@ fn small_pieces() {
     assert_eq!(long(&text), b"8f030005\n");
     text.push(b'\n');
     assert_eq!(long(&text), b"8f010000\n");
+}
+
+/// A read that fails is not taken for the end of an empty input: a directory cannot be read.
+#[test]
+fn a_read_that_fails() {
+    let directory = File::open(env!("CARGO_MANIFEST_DIR")).expect("a directory");
+    let (printed, said) = generate::run_on(directory);
+    assert_eq!(printed, b"");
+    assert_eq!(said, "generate: the input cannot be read\n");
 }

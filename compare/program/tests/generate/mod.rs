@@ -33,6 +33,18 @@ pub fn answer_in_pieces(text: &[u8], length: usize, pause: Duration) -> Vec<u8> 
     output.stdout
 }
 
+/// What the program prints, and says on standard error, with this as its standard input.
+pub fn run_on(input: impl Into<Stdio>) -> (Vec<u8>, String) {
+    let output = Command::new(path())
+        .stdin(input)
+        .output()
+        .expect("the program ends");
+    (
+        output.stdout,
+        String::from_utf8_lossy(&output.stderr).into_owned(),
+    )
+}
+
 fn path() -> PathBuf {
     let path = Path::new(env!("CARGO_MANIFEST_DIR")).join("../../target/bin/generate");
     let built = path.exists();
