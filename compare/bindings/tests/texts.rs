@@ -52,7 +52,7 @@ fn random_and_damaged_texts() {
         }
     }
     println!("{} texts", tally.texts);
-    assert!(tally.texts >= 200_000);
+    assert!(tally.texts >= 1_500_000);
     for number in 0..=10 {
         println!("refusal {number}: {}", tally.met[number]);
         assert!(tally.met[number] >= 500, "refusal {number}");

@@ -104,7 +104,7 @@ fn random_and_damaged_texts() {
     for size in 1..=50 {
         tally.compare(too_many_candidates(size).as_bytes());
     }
-    assert!(tally.texts >= 3_000);
+    assert!(tally.texts >= 5_000);
     tally.finish();
 }
 

@@ -2,8 +2,8 @@
 //! cases, its candidates, a look at them, and the program's output.
 //!
 //! Every module is written from the document of exact rules; a comment that settles a choice
-//! quotes the sentence it rests on. Nothing here is clever on purpose, except [`search`], which is
-//! the same walk written for speed.
+//! quotes the sentence it rests on. Everything here is plain, except [`search`], which is the same
+//! walk written for speed.
 
 #![forbid(unsafe_code)]
 #![warn(missing_docs)]

@@ -1,8 +1,8 @@
 //! The search written for speed: the same walk over the candidates, with nothing allocated for a
 //! candidate.
 //!
-//! The file is prepared once. The cells are stepped on like an odometer, in the place where the
-//! rows of their tables are read. Keys and foreign keys are tried before any view, and only the
+//! The file is prepared once. The cells are stepped on in the place where the rows of their tables
+//! are read, the last cell first. Keys and foreign keys are tried before any view, and only the
 //! relations the goal depends on are worked out. All values fit into 32 bits by refusal 9.
 
 mod prepare;

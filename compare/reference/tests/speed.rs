@@ -48,6 +48,7 @@ fn every_kind_of_damage_alone() {
             counts[0],
             &counts[1..]
         );
+        assert!(counts[1..].iter().any(|&count| count > 0), "{kind:?}");
     }
 }
 
@@ -59,6 +60,8 @@ fn all_changes_of_a_few_files() {
         limits[0],
         &limits[1..]
     );
+    // one step within a limit is accepted, and one past it refused by 5
+    assert!(limits[0] > 0 && limits[5] > 0);
     let text = write(&gen::file(3));
     let bytes = met(every_byte_change(&text));
     println!(

@@ -23,14 +23,14 @@ use Rattle.cases.specs.declared.outline.Outline.{Outline}
 
 -- ---- one view
 
--- where its sign is asked it is noted, else nothing changes
+-- where its sign is asked it is noted; what belongs to other relations stays
 pub record SignNoted (bytes : List ℕ) (at : ℕ) (asked counts refuted : List ℕ) (work : List ℤ) (v : ℕ) (refuted′ : List ℕ) (work′ : List ℤ) : Type 0 where
   pub apart : Apart v work work′
   pub size : length refuted′ ≡ length refuted
   pub others : (i : ℕ) → (i ≡ v → ⊥) → getD refuted′ i 0 ≡ getD refuted i 0
   pub noted : Flag asked v → v < length refuted → (r : Bool) × Refutes bytes at counts refuted work v r work′ × (getD refuted′ v 0 ≡ cond r 1 0)
 
--- where its rows are needed they are worked out, else nothing changes
+-- where its rows are needed they are worked out; what belongs to other relations stays
 pub record RowsNoted (bytes : List ℕ) (at : ℕ) (shape needed counts : List ℕ) (work : List ℤ) (v : ℕ) (counts′ : List ℕ) (work′ : List ℤ) : Type 0 where
   pub apart : Apart v work work′
   pub size : length counts′ ≡ length counts

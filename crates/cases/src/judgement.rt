@@ -92,6 +92,7 @@ fn wanted(o: Outline, counts: &[u8], refuted: &[u8]) -> bool
     0 < slice::byte_at(counts, o.goal as usize)
 }
 
+// Whether the database in the work area is a case of the goal.
 // Refused: an empty database; a database that is not valid.
 pub fn is_case(
     bytes: &[u8],

@@ -99,7 +99,7 @@ pub fn frame_at(starts: &[u32], r: u8) -> usize
 }
 
 // The flags of all relations that the goal depends on are set, from the last relation down.
-// Refused: the goal alone; the goal's sign where its rows are needed.
+// Refused: the goal alone; what the first relation names for each.
 pub fn needs_of(bytes: &[u8], starts: &[u32], o: Outline, needed: &mut [u8], asked: &mut [u8])
     ensures { λ _. ⌜ NeedsOf (now (bytes .entry)) (now (starts .entry)) o (now (needed .entry)) (now (asked .entry)) (now (needed .exit)) (now (asked .exit)) ⌝ }
 {

@@ -58,7 +58,8 @@ pub fn count_tables(shape: &[u8], tables: u8, counts: &mut [u8])
     }
 }
 
-// Refused: the goal's sign turned round; a file whose tables have no rows as filled.
+// What the evaluation of candidates needs of a plan, beside its arrays.
+// Refused: the goal's sign turned round; as many foreign keys as tables.
 pub fn outline_of(plan: Plan) -> Outline
     ensures { λ r. ⌜ Outlines plan r ⌝ }
 {

@@ -56,7 +56,7 @@ fn key_holds(work: &[i32], table: u8, rows: u8, width: u8, mask: u8) -> bool
 }
 
 // Whether the key of each table holds.
-// Refused: the first table's key for each; a key column left out.
+// Refused: the first table's key for each; the first table's columns for each.
 pub fn keys_hold(shape: &[u8], counts: &[u8], work: &[i32], tables: u8) -> bool
     ensures { λ r. ⌜ KeysHeld (now (shape .entry)) (now (counts .entry)) (now (work .entry)) tables r ⌝ }
 {
@@ -149,7 +149,7 @@ fn foreign_key_holds(bytes: &[u8], at: usize, counts: &[u8], work: &[i32]) -> bo
 }
 
 // Whether each of `keys` foreign keys holds; their frames stand at `at`, each behind its length.
-// Refused: the first key alone; the first child row alone.
+// Refused: the first key alone; a frame's length left out of what is passed.
 pub fn foreign_keys_hold(bytes: &[u8], at: usize, keys: u8, counts: &[u8], work: &[i32]) -> bool
     ensures { λ r. ⌜ ForeignsHeld (now (bytes .entry)) at keys (now (counts .entry)) (now (work .entry)) r ⌝ }
 {
@@ -168,6 +168,7 @@ pub fn foreign_keys_hold(bytes: &[u8], at: usize, keys: u8, counts: &[u8], work:
     true
 }
 
+// Whether each key and each foreign key holds.
 // Refused: primary keys alone; foreign keys alone.
 pub fn is_valid(bytes: &[u8], shape: &[u8], o: Outline, counts: &[u8], work: &[i32]) -> bool
     ensures { λ r. ⌜ Validates (now (bytes .entry)) (now (shape .entry)) o (now (counts .entry)) (now (work .entry)) r ⌝ }

@@ -42,7 +42,7 @@ fn told(a: Answer, values: &mut [u64]) -> u32
 
 // A look. The number is 0x80 for a case, 0x82 for no case, 0 for spent and 0x8f for a refusal; `values` begins with k, with next, or with
 // the refusal's number and line.
-// Refused: start and count swapped; a case where there is none.
+// Refused: start and count swapped; a count of 0.
 #[no_mangle]
 pub extern "C" fn sakthveim_look(
     text: &[u8],

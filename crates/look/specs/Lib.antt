@@ -1,6 +1,7 @@
 -- What a reader must believe of looks.
+pub mod Looks
+-- what the parts of the code give
 pub mod Cells
 pub mod Moves
 pub mod Scans
 pub mod Buffers
-pub mod Looks

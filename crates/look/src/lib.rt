@@ -12,8 +12,9 @@ ghost use Rattle.meaning.specs.Look.{After};
 ghost use Rattle.look.specs.Looks.{answerOf, lookOf, Concludes, Finds};
 
 // The work area has at least this many numbers.
-const AREA: usize = 9216;
+pub const AREA: usize = 9216;
 
+// "case k", "no case", "spent" with next, or a refusal with its line.
 pub enum Answer {
     Case(u64),
     NoCase,

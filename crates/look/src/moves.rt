@@ -60,7 +60,7 @@ pub fn place(bytes: &[u8], starts: &[u32], codes: &[u16], cells: u32, k: u64, wo
 }
 
 // The cells go from candidate k to `next`: from the last cell back, up to where the leading digits are the same.
-// Refused: to candidate k; no further than where a digit differs.
+// Refused: to candidate k; no cell where k and `next` differ.
 pub fn move_to(
     bytes: &[u8],
     starts: &[u32],

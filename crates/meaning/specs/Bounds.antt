@@ -83,6 +83,7 @@ viewSchema ss (View.union i j) =
 viewSchema ss (View.intersection i j) =
     record { bound = min (schema ss i .bound) (schema ss j .bound); ranges = schema ss i .ranges }
 
+-- the schema of each relation, tables first
 abbrev pub schemas : File → List Schema
 schemas F = stack viewSchema (F .views) (map tableSchema (F .tables))
 
@@ -95,7 +96,7 @@ names (View.grouped fs w gs h ss) = fs
 names (View.union i j) = i ∷ j ∷ []
 names (View.intersection i j) = i ∷ j ∷ []
 
--- 6: "earlier relations", "two earlier views with equally many columns"
+-- 6: "earlier relations". That the operands of a set view are views is asked of a legal file (`Legal` of rules); the theorems need less
 abbrev pub earlier : List Schema → View → Bool
 earlier ss q = all (λ i. ltb i (length ss)) (names q)
 
@@ -162,6 +163,7 @@ ordered t = all (λ c. leZ (c .lo) (c .hi)) (t .columns)
 abbrev pub everyView : (List Schema → View → Bool) → File → Bool
 everyView p F = stackAll viewSchema p (F .views) (map tableSchema (F .tables))
 
+-- weaker than "07 goal: a view", which is asked of a legal file; all that the theorems need
 abbrev pub goalNamesRelation : File → Goal → Bool
 goalNamesRelation F g = ltb (g .view) (length (F .tables) + length (F .views))
 

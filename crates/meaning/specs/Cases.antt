@@ -47,6 +47,7 @@ module _ (F : File) (d : Database) where
     intersection-left : {v i j : ℕ} → query (length d) F v ≡ some (View.intersection i j) → NTC i → NTC v
     intersection-right : {v i j : ℕ} → query (length d) F v ≡ some (View.intersection i j) → NTC j → NTC v
 
+  -- "sign (0 positive, 1 negative)"
   abbrev pub Wanted : Bool → ℕ → Type 0
   Wanted true v = NTC v
   Wanted false v = PTC v
@@ -80,8 +81,10 @@ abbrev pub negative : File → Database → ℕ → ℕ → Bool
 negative F d zero v = false
 negative F d (suc n) v = refuted (below v (rows F d)) (negative F d n) (query (length d) F v)
 
+-- the same, computed
 abbrev pub wanted : File → Database → Goal → Bool
 wanted F d g = let v = g .view in cond (g .negative) (negative F d (suc v) v) (hasRow (rows F d v))
 
+-- "It is a case only if valid and some table has a row"
 unfoldable pub isCase : File → Goal → Database → Bool
 isCase F g d = valid F d && (someRow d && wanted F d g)

@@ -58,7 +58,7 @@ module _ (F : File) where
   unfoldable pub candidate : ℕ → Bool
   candidate k = isCase F (F .goal) (database F k)
 
-  -- "the buffer begins with its cells", "instance numbers not just named keep their values"
+  -- "the buffer begins with its cells", "instance numbers not just named keep their values". In a legal file 16 bits hold every cell
   abbrev pub shownIn : ℕ → List ℤ → List ℤ
   shownIn k inst = map shown (cells F k) ++ drop (cellCount F) inst
 

@@ -116,7 +116,7 @@ pub fn output(text: &[u8], out: &mut [u8]) -> usize
     if out.len() < ROOM {
         return 0;
     }
-    let mut work = [0i32; 9216];
+    let mut work = [0i32; look::AREA];
     let mut cells = [0i16; 512];
     let a = look::look(text, 0, u64::MAX, &mut work, &mut cells);
     match a {

@@ -1,5 +1,5 @@
--- `fileOf`: the one refusal that document 01 fixes, number and line, or the file that a text means. Assumes nothing: these are
--- definitions, and they compute.
+-- `checkAll`: frames in turn, to the refusal of the first wrong one with its line, or to the file. Assumes nothing: these are definitions,
+-- and they compute.
 use mathlib.Core.Bool.{Bool, cond}
 use mathlib.Core.List.{List, [], _∷_}
 use mathlib.Core.Option.{Option, none, some}
@@ -21,9 +21,11 @@ pub data Checked : Type 0 where
   fault : ℕ → Checked
   next : Draft → Checked
 
+-- "then whole-frame rules"
 abbrev pub wholeChecked : Draft → Item → Checked
 wholeChecked d i = cond (eqb (wholeFault d i) 0) (Checked.next (added d i)) (Checked.fault (wholeFault d i))
 
+-- "bytes left to right for 4, 5, 6", and then those
 abbrev pub readChecked : Draft → Read Item → Checked
 readChecked d (Read.ok i rest) = wholeChecked d i
 readChecked d (Read.refused n) = Checked.fault n

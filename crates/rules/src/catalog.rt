@@ -21,6 +21,7 @@ const VIEW: u8 = 2;
 // The first number of candidates that is too large.
 const TOO_MANY: u64 = 16777217;
 
+// The number of columns of a relation.
 // Refused: the kind; the row bound.
 pub fn width_of(shape: &[u8], r: u8) -> u8
     ensures { λ w. ⌜ w ≡ widthAt (now (shape .entry)) r ⌝ }
@@ -28,6 +29,7 @@ pub fn width_of(shape: &[u8], r: u8) -> u8
     byte_at(shape, 4 * (r as usize) + 1)
 }
 
+// Its row bound.
 // Refused: the number of columns; the key mask.
 pub fn bound_of(shape: &[u8], r: u8) -> u8
     ensures { λ b. ⌜ b ≡ boundAt (now (shape .entry)) r ⌝ }
@@ -35,6 +37,7 @@ pub fn bound_of(shape: &[u8], r: u8) -> u8
     byte_at(shape, 4 * (r as usize) + 2)
 }
 
+// Its key mask.
 // Refused: the row bound; that of the first relation.
 pub fn mask_of(shape: &[u8], r: u8) -> u8
     ensures { λ m. ⌜ m ≡ maskAt (now (shape .entry)) r ⌝ }
@@ -101,7 +104,7 @@ pub fn put_shape(shape: &mut [u8], r: u8, kind: u8, width: u8, bound: u8, mask: 
 }
 
 // The column whose four bytes stand at a place.
-// Refused: lo twice; the low byte of lo twice.
+// Refused: lo twice; the high byte of lo twice.
 pub fn domain_at(bytes: &[u8], at: usize) -> Domain
     requires { ⌜ at ≤ 4294970000 ⌝ }
     ensures { λ d. ⌜ columnOf d ≡ columnFrom (now (bytes .entry)) at ⌝ }

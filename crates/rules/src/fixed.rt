@@ -81,6 +81,7 @@ fn columns_fault(frame: &[u8], n: u8) -> u8
     0
 }
 
+// The fault of a table's frame; 0 for none.
 // Refused: a ninth row; a surplus byte.
 pub fn table_fault(frame: &[u8]) -> u8
     ensures { λ r. ⌜ TableFault (now (frame .entry)) r ⌝ }
@@ -181,6 +182,7 @@ fn pairing_fault(frame: &[u8], n: u8, width: u8, mask: u8) -> u8
     0
 }
 
+// The fault of a foreign key's frame.
 // Refused: the child's columns for the parent's; the pairing before the end.
 pub fn key_fault(frame: &[u8], shape: &[u8], tables: u8) -> u8
     ensures { λ r. ⌜ KeyFault (now (frame .entry)) (now (shape .entry)) tables r ⌝ }
@@ -227,6 +229,7 @@ fn set_rules(union: bool, v: u8, w: u8, a: u8, b: u8) -> u8
     if set_bound(union, a, b) <= 64 { 0 } else { 8 }
 }
 
+// The fault of the frame of a union or an intersection.
 // Refused: a table as a view; the rules before the end.
 pub fn set_fault(frame: &[u8], shape: &[u8], tables: u8, count: u8, union: bool) -> u8
     ensures { λ r. ⌜ SetFault (now (frame .entry)) (now (shape .entry)) tables count union r ⌝ }
@@ -244,6 +247,7 @@ pub fn set_fault(frame: &[u8], shape: &[u8], tables: u8, count: u8, union: bool)
 
 // ---- 07 goal
 
+// The fault of the goal's frame.
 // Refused: a sign of 2; the sign before the view.
 pub fn goal_fault(frame: &[u8], tables: u8, count: u8) -> u8
     ensures { λ r. ⌜ GoalFault (now (frame .entry)) tables count r ⌝ }

@@ -49,6 +49,7 @@ fn walk(packed: &[u8], shape: &mut [u8], ends: &mut [i32]) -> Walked
         let size = packed[at] as usize;
         let from = at + 1;
         line = line + 1;
+        // never met: decoded frames are whole
         if packed.len() - from < size {
             return Walked {
                 number: 2,
@@ -134,6 +135,7 @@ fn refusal(number: u8, line: u16) -> Plan
     }
 }
 
+// The plan of the file that a text means, or its refusal by 1 to 10 with its line.
 // Refused: every text by 3; 2^24 candidates by 10.
 pub fn check(text: &[u8]) -> Plan
     ensures { λ r. ⌜ Plans (fileOf (now (text .entry))) r ⌝ }

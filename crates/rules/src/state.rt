@@ -21,6 +21,7 @@ pub struct State {
     pub negative: bool,
 }
 
+// Before the first frame.
 // Refused: goal 1; the stage of foreign keys.
 pub fn start() -> State
     ensures { λ r. ⌜ r ≡ startState ⌝ }
@@ -64,7 +65,7 @@ fn room_for(s: State, stage: u8) -> bool
 }
 
 // 3 for a kind unknown or out of order, 5 for a 17th relation or foreign key.
-// Refused: 5 before 3; a 17th relation kept.
+// Refused: 5 for 3; a 17th relation kept.
 pub fn turn_fault(s: State, kind: u8) -> u8
     ensures { λ r. ⌜ r ≡ turnFault s kind ⌝ }
 {
@@ -81,6 +82,7 @@ fn one_more(n: u8) -> u8
     if n < 255 { n + 1 } else { 255 }
 }
 
+// One more table.
 // Refused: the keys counted as tables; the stage of foreign keys.
 pub fn with_table(s: State) -> State
     ensures { λ r. ⌜ r ≡ withTable s ⌝ }
@@ -95,6 +97,7 @@ pub fn with_table(s: State) -> State
     }
 }
 
+// One more foreign key.
 // Refused: the tables counted as keys; the stage of tables.
 pub fn with_key(s: State) -> State
     ensures { λ r. ⌜ r ≡ withKey s ⌝ }
@@ -109,6 +112,7 @@ pub fn with_key(s: State) -> State
     }
 }
 
+// One more view.
 // Refused: the tables counted as relations; the stage of the goal.
 pub fn with_view(s: State) -> State
     ensures { λ r. ⌜ r ≡ withView s ⌝ }
@@ -124,6 +128,7 @@ pub fn with_view(s: State) -> State
     }
 }
 
+// The goal.
 // Refused: the signs swapped; a frame may follow.
 pub fn with_goal(s: State, view: u8, sign: u8) -> State
     ensures { λ r. ⌜ r ≡ withGoal s view sign ⌝ }

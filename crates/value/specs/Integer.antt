@@ -53,7 +53,7 @@ abbrev pub greatestEnd : (ℤ → ℤ → ℤ) → ℤ → ℤ → ℤ → ℤ �
 greatestEnd f l h l′ h′ = maxZ (maxZ (f l l′) (f l h′)) (maxZ (f h l′) (f h h′))
 
 -- token 05: "the nearest multiple of m, halves away from zero". A number q × m + r, with r below m, lies between q × m and
--- (q + 1) × m: how many steps it goes up. From the half on that is one
+-- (q + 1) × m: how many steps it goes up. From the half on that is one, whatever q is
 unfoldable pub stepsUp : ℕ → ℕ → ℕ → ℕ
 stepsUp m q r = cond (ltb (2 * r) m) 0 1
 

@@ -1,5 +1,5 @@
--- What the code's values, truths, running aggregates and domains stand for. Each map is shut: callers cite it by name and never see
--- through it. Assumes nothing: these are definitions.
+-- What the code's values, truths, running aggregates and domains stand for. Other crates cite each map by its name and use
+-- its laws only. Assumes nothing: these are definitions.
 use mathlib.Core.Option.{none, some}
 use Rattle.value.specs.Value.{Value, Truth, Tally, Column}
 use Rattle.value.specs.declared.datum.Datum.{Datum}

@@ -221,7 +221,7 @@ pub record Within (c : Column) (v : Value) : Type 0 where
 abbrev pub within : Column → Value → Bool
 within c v = between (c .lo) (c .hi) v
 
--- "digit = value - lo": how many digits a column has, and the value of each
+-- "digit = value - lo": how many digits there are for a column, and the value of each
 unfoldable pub size : Column → ℕ
 size c = suc (natAbs (c .hi -ℤ c .lo))
 

@@ -221,7 +221,7 @@ fn near(n: u64, m: u16) -> u64
 }
 
 // The multiple of m nearest to x, the one away from 0 at a half; 0 where m is 0.
-// Refused: the sign lost; halves toward zero.
+// Refused: the sign turned round; nothing rounded.
 pub fn round(x: i32, m: u16) -> i64
     ensures { λ r. ⌜ r ≡ roundZ m x ⌝ }
 {
