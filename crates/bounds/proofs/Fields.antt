@@ -1,12 +1,12 @@
 -- The fields behind a token, from what was read. Assumes nothing.
-use mathlib.Core.Path.{_≡_, refl, sym, ap, subst, _∙_}
+use mathlib.Core.Path.{_≡_, refl, ap, subst, _∙_}
 use mathlib.Core.Bool.{Bool, true, false, _&&_}
 use mathlib.Core.List.{List, [], _∷_}
 use Prim.Native.Nat.{ℕ, _+_, _*_}
 use native.Mathlib.Omega.{arith}
 use lib.Dec.{ltb, leb}
 use lib.ListN.{length, getD, drop}
-use lib.Seq.{drop-drop, getD-drop}
+use Rattle.value.proofs.Places.{byte-here, two-here}
 use Rattle.meaning.specs.Syntax.{Expr}
 use Rattle.meaning.specs.Reading.{Read, done, refuse, byte, byteIf, either, twoBytes, step, place}
 use Rattle.meaning.proofs.Readers.{then-ok}
@@ -38,23 +38,11 @@ pub record TwoAt (frame : List ℕ) (i a b : ℕ) (rest : List ℕ) : Type 0 whe
   pub behind : drop (i + 2) frame ≡ rest
 
 module _ (frame : List ℕ) where
-  -- a byte that stands at i, and what follows it
-  pub one-at : (i : ℕ) {b : ℕ} {l : List ℕ} → drop i frame ≡ b ∷ l → (getD frame i 0 ≡ b) × (drop (i + 1) frame ≡ l)
-  one-at i e = (
-    ap (λ k. getD frame k 0) (omega arith) ∙ sym (getD-drop i frame 0 0) ∙ ap (λ (x : List ℕ). getD x 0 0) e,
-    sym (drop-drop 1 i frame) ∙ ap (drop 1) e,
-  )
-
-  two-at : (i : ℕ) {a b : ℕ} {l : List ℕ} → drop i frame ≡ a ∷ b ∷ l → TwoAt frame i a b l
-  two-at i e =
-      let f = one-at i e in
-      let g = one-at (i + 1) (f .1) in
-      let k : i + 2 ≡ i + 1 + 1 = omega arith in
-      record { first = f .0; second = g .0; behind = ap (λ j. drop j frame) k ∙ g .1 }
-
   -- two bytes that were read one after the other
   pub two-read : (i : ℕ) {a b : ℕ} {l m : List ℕ} → drop i frame ≡ a ∷ l → l ≡ b ∷ m → TwoAt frame i a b m
-  two-read i {a} e f = two-at i (e ∙ ap (λ (l : List ℕ). a ∷ l) f)
+  two-read i {a} e f =
+      let t = two-here frame i (e ∙ ap (λ (l : List ℕ). a ∷ l) f) in
+      record { first = t .0; second = t .1; behind = t .2 }
 
   -- the two bytes of a step
   pub record StepAt (i m : ℕ) (rest : List ℕ) : Type 0 where
@@ -85,4 +73,4 @@ module _ (frame : List ℕ) where
   -- the kind of an aggregate
   pub kind-at : (i : ℕ) (p : ℕ → Bool) {n : ℕ} {rest : List ℕ} → byteIf 5 p (drop i frame) ≡ Read.ok n rest
       → (getD frame i 0 ≡ n) × (drop (i + 1) frame ≡ rest)
-  kind-at i p q = one-at i (byteIf-ok 5 p (drop i frame) q)
+  kind-at i p q = byte-here frame i (byteIf-ok 5 p (drop i frame) q)

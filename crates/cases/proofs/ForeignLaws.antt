@@ -3,7 +3,6 @@ use mathlib.Core.Path.{_≡_, refl, sym, ap, ap₂, _∙_}
 use mathlib.Core.Bool.{Bool, true, false, _&&_}
 use mathlib.Core.List.{List, [], _∷_, _++_, map, append-assoc}
 use Prim.Native.Nat.{ℕ, suc, _+_, _<_, _≤_}
-use native.Mathlib.Nat.{add-zero}
 use native.Mathlib.Omega.{arith}
 use lib.IntN.{ℤ}
 use lib.ListN.{length, getD, drop, drop-of-length-le}
@@ -11,6 +10,7 @@ use lib.Seq.{drop-cons, drop-drop, getD-drop, drop-append-seam}
 use Rattle.text.specs.Answers.{pack}
 use Rattle.value.specs.Bag.{All}
 use Rattle.value.specs.Value.{Value, valueTest}
+use Rattle.value.proofs.Places.{byte-here}
 use Rattle.meaning.specs.Lists.{all, any}
 use Rattle.meaning.specs.Syntax.{Row, Pair, ForeignKey, File, Database}
 use Rattle.meaning.specs.Evaluation.{missing}
@@ -73,7 +73,7 @@ module _ (bytes : List ℕ) (at count : ℕ) (work : List ℤ) (child i parent j
           let lp : p < length ps = omega arith in
           let ok = all-at legal noPair p lp in
           let there = stands ps rest e l c q legal in
-          let fa : a ≡ pair .child = ea ∙ ap (λ n. getD bytes n 0) (sym (add-zero next)) ∙ at-place bytes next 0 0 _ there in
+          let fa : a ≡ pair .child = ea ∙ byte-here bytes next there .0 in
           let fb : b ≡ pair .parent = eb ∙ at-place bytes next 1 0 _ there in
           let fx : getD μ (pair .child) missing ≡ x = cell-of-row work child c i (pair .child) (ok .child) ∙ sym (ex ∙ ap (cellIn work child i) fa) in
           let fy : getD ν (pair .parent) missing ≡ y = cell-of-row work parent q j (pair .parent) (ok .parent) ∙ sym (ey ∙ ap (cellIn work parent j) fb) in
@@ -241,7 +241,7 @@ module _ (bytes : List ℕ) (at keys : ℕ) (counts : List ℕ) (work : List ℤ
       key-told {r} f =
           let k = getD ks n noKey in
           let ln : n < length ks = omega arith in
-          let fe : drop (next + 1) bytes ≡ frame ++ behind = sym (drop-drop 1 next bytes) ∙ ap (drop 1) frame-stands in
+          let fe : drop (next + 1) bytes ≡ frame ++ behind = byte-here bytes next frame-stands .1 in
           let t : r ≡ foreignKeyHolds d k = f .holds F d k behind fe (all-at legal noKey n ln) s in
           a .rest-of F d ks rest e l legal s .1
           ∙ ap (all (foreignKeyHolds d)) (drop-cons ks n noKey ln)
@@ -261,10 +261,10 @@ module _ (bytes : List ℕ) (at keys : ℕ) (counts : List ℕ) (work : List ℤ
           let there = frame-stands F d ks rest e l legal s in
           let fr = frame F d ks rest e l legal s in
           let bh = behind F d ks rest e l legal s in
-          let fs : size ≡ length fr = es ∙ ap (λ k. getD bytes k 0) (sym (add-zero next)) ∙ at-place bytes next 0 0 _ there in
+          let fs : size ≡ length fr = es ∙ byte-here bytes next there .0 in
           rw m (
             sym (drop-drop size (next + 1) bytes)
-                ∙ ap (drop size) (sym (drop-drop 1 next bytes) ∙ ap (drop 1) there)
+                ∙ ap (drop size) (byte-here bytes next there .1)
                 ∙ ap (λ k. drop k (fr ++ bh)) fs
                 ∙ drop-append-seam fr bh,
             key-told F d ks rest e l legal s f ∙ rw z,

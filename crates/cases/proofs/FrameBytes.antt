@@ -2,9 +2,9 @@
 use mathlib.Core.Path.{_≡_, sym, ap, _∙_}
 use mathlib.Core.List.{List, _∷_, _++_, map, append-assoc}
 use Prim.Native.Nat.{ℕ, _+_, _<_}
-use native.Mathlib.Omega.{arith}
 use lib.ListN.{length, getD, drop, List·getD-append}
 use lib.Seq.{getD-drop, drop-drop, drop-append-seam}
+use Rattle.value.proofs.Places.{byte-here, two-here}
 use Rattle.meaning.specs.Lists.{joined}
 use Rattle.meaning.specs.Syntax.{Expr, Cond, Place, View}
 use Rattle.meaning.specs.Prefix.{encodeE, encodeC}
@@ -13,13 +13,6 @@ use Rattle.views.specs.Grouping.{placesBytes}
 use Rattle.cases.specs.Relations.{kindOf}
 
 module _ (bytes : List ℕ) where
-  -- a byte that stands at i, and what follows it
-  pub byte-here : (i n : ℕ) (l : List ℕ) → drop i bytes ≡ n ∷ l → (getD bytes i 0 ≡ n) × (drop (i + 1) bytes ≡ l)
-  byte-here i n l e = (
-    ap (λ k. getD bytes k 0) (omega arith) ∙ sym (getD-drop i bytes 0 0) ∙ ap (λ (x : List ℕ). getD x 0 0) e,
-    sym (drop-drop 1 i bytes) ∙ ap (drop 1) e,
-  )
-
   -- a list of bytes that stands at i, and what follows it
   pub bytes-here : (i : ℕ) (p l : List ℕ) → drop i bytes ≡ p ++ l → (k : ℕ) → k < length p → getD bytes (i + k) 0 ≡ getD p k 0
   bytes-here i p l e k h = sym (getD-drop i bytes k 0) ∙ ap (λ (x : List ℕ). getD x k 0) e ∙ List·getD-append p l 0 k h
@@ -31,20 +24,17 @@ module _ (bytes : List ℕ) where
 
   pub kind-here : (at : ℕ) (q : View) (rest : List ℕ) → drop at bytes ≡ viewBytes q ++ rest → getD bytes at 0 ≡ kindOf q
   unfolding viewBytes
-  kind-here at (View.basic fs w es) rest e = byte-here at 3 _ e .0
-  kind-here at (View.grouped fs w gs h es) rest e = byte-here at 4 _ e .0
-  kind-here at (View.union i j) rest e = byte-here at 5 _ e .0
-  kind-here at (View.intersection i j) rest e = byte-here at 6 _ e .0
+  kind-here at (View.basic fs w es) rest e = byte-here bytes at e .0
+  kind-here at (View.grouped fs w gs h es) rest e = byte-here bytes at e .0
+  kind-here at (View.union i j) rest e = byte-here bytes at e .0
+  kind-here at (View.intersection i j) rest e = byte-here bytes at e .0
 
   -- the from list, behind the kind and its length, and what follows it
   from-here : (at k : ℕ) (fs l : List ℕ) → drop at bytes ≡ k ∷ length fs ∷ fs ++ l
       → (getD bytes (at + 1) 0 ≡ length fs) × (drop (at + 2) bytes ≡ fs ++ l) × (drop (at + 2 + length fs) bytes ≡ l)
   from-here at k fs l e =
-      let a = byte-here at k (length fs ∷ fs ++ l) e in
-      let b = byte-here (at + 1) (length fs) (fs ++ l) (a .1) in
-      let n : at + 2 ≡ at + 1 + 1 = omega arith in
-      let c : drop (at + 2) bytes ≡ fs ++ l = ap (λ i. drop i bytes) n ∙ b .1 in
-      (b .0, c, bytes-past (at + 2) fs l c)
+      let a = two-here bytes at e in
+      (a .1, a .2, bytes-past (at + 2) fs l (a .2))
 
   module _ (at : ℕ) (fs : List ℕ) (w : Cond) (es : List Expr) (rest : List ℕ) (e : drop at bytes ≡ viewBytes (View.basic fs w es) ++ rest) where
     tail : List ℕ
@@ -62,7 +52,7 @@ module _ (bytes : List ℕ) where
         × (drop (at + 2 + length fs + 1) bytes ≡ encodeC w ++ (joined (map encodeE es) ++ rest))
     basic-parts =
         let f = from-here at 3 fs (length es ∷ encodeC w ++ (joined (map encodeE es) ++ rest)) basic-split in
-        let g = byte-here (at + 2 + length fs) (length es) (encodeC w ++ (joined (map encodeE es) ++ rest)) (f .2) in
+        let g = byte-here bytes (at + 2 + length fs) (f .2) in
         (f .0, f .1, g .0, g .1)
 
   module _ (at : ℕ) (fs : List ℕ) (w : Cond) (gs : List Place) (h : Cond) (es : List Expr) (rest : List ℕ)
@@ -89,18 +79,14 @@ module _ (bytes : List ℕ) where
         × (drop (at + 2 + length fs + 2) bytes ≡ conditions)
     grouped-parts =
         let f = from-here at 4 fs (length gs ∷ length es ∷ conditions) grouped-split in
-        let a = byte-here (at + 2 + length fs) (length gs) (length es ∷ conditions) (f .2) in
-        let b = byte-here (at + 2 + length fs + 1) (length es) conditions (a .1) in
-        let n : at + 2 + length fs + 2 ≡ at + 2 + length fs + 1 + 1 = omega arith in
-        (f .0, f .1, a .0, b .0, ap (λ i. drop i bytes) n ∙ b .1)
+        let a = two-here bytes (at + 2 + length fs) (f .2) in
+        (f .0, f .1, a .0, a .1, a .2)
 
   -- the operands of a set view
   set-here : (at k i j : ℕ) (l : List ℕ) → drop at bytes ≡ k ∷ i ∷ j ∷ l → (getD bytes (at + 1) 0 ≡ i) × (getD bytes (at + 2) 0 ≡ j)
   set-here at k i j l e =
-      let a = byte-here at k (i ∷ j ∷ l) e in
-      let b = byte-here (at + 1) i (j ∷ l) (a .1) in
-      let n : at + 2 ≡ at + 1 + 1 = omega arith in
-      (b .0, ap (λ m. getD bytes m 0) n ∙ byte-here (at + 1 + 1) j l (b .1) .0)
+      let a = two-here bytes at e in
+      (a .1, byte-here bytes (at + 2) (a .2) .0)
 
   pub union-parts : (at i j : ℕ) (rest : List ℕ) → drop at bytes ≡ viewBytes (View.union i j) ++ rest → (getD bytes (at + 1) 0 ≡ i) × (getD bytes (at + 2) 0 ≡ j)
   unfolding viewBytes

@@ -7,10 +7,10 @@ use Prim.Native.Nat.{ℕ, _+_, _-_, _≤_, _<_}
 use native.Mathlib.Omega.{arith}
 use lib.Dec.{eqb}
 use lib.ListN.{length, getD, set, drop}
-use lib.Seq.{drop-drop, getD-drop}
 use borrow.Author.Tests.{eqb-true, eqb-false}
 use Rattle.value.specs.Bag.{All}
 use Rattle.value.proofs.Decides.{by-test}
+use Rattle.value.proofs.Places.{byte-here, two-here}
 use Rattle.value.proofs.Values.{all-map}
 use Rattle.meaning.specs.Syntax.{View, File}
 use Rattle.meaning.specs.Algebra.{query}
@@ -61,9 +61,7 @@ set-frame (View.intersection i j) e = record { kind = 6; large = omega arith; tw
 
 module _ (bytes : List ℕ) (at : ℕ) (q : View) (rest : List ℕ) (e : drop at bytes ≡ viewBytes q ++ rest) where
   first-byte : (k : ℕ) (l : List ℕ) → viewBytes q ≡ k ∷ l → getD bytes at 0 ≡ k
-  first-byte k l v =
-      let n : at ≡ at + 0 = omega arith in
-      ap (λ i. getD bytes i 0) n ∙ sym (getD-drop at bytes 0 0) ∙ ap (λ (x : List ℕ). getD x 0 0) (e ∙ ap (λ (x : List ℕ). x ++ rest) v)
+  first-byte k l v = byte-here bytes at (e ∙ ap (λ (x : List ℕ). x ++ rest) v) .0
 
   pub kind-own : ownConditions q ≡ true → getD bytes at 0 < 5
   kind-own o = let f = own-frame q o in omega (arith, f .small, first-byte (f .kind) _ (f .is))
@@ -76,14 +74,14 @@ module _ (bytes : List ℕ) (at : ℕ) (q : View) (rest : List ℕ) (e : drop at
       let f = own-frame q o in
       let all : drop at bytes ≡ f .kind ∷ length (names q) ∷ names q ++ f .others ++ rest = e ∙ ap (λ (x : List ℕ). x ++ rest) (f .is) in (
         f .others ++ rest,
-        sym (drop-drop 2 at bytes) ∙ ap (drop 2) all ∙ append-assoc (names q) (f .others) rest,
-        sym (getD-drop at bytes 1 0) ∙ ap (λ (x : List ℕ). getD x 1 0) all,
+        two-here bytes at all .2 ∙ append-assoc (names q) (f .others) rest,
+        two-here bytes at all .1,
       )
 
   pub set-names : ownConditions q ≡ false → (drop (at + 1) bytes ≡ names q ++ rest) × (length (names q) ≡ 2)
   set-names o =
       let f = set-frame q o in
-      (sym (drop-drop 1 at bytes) ∙ ap (drop 1) (e ∙ ap (λ (x : List ℕ). x ++ rest) (f .is)), f .two)
+      (byte-here bytes at (e ∙ ap (λ (x : List ℕ). x ++ rest) (f .is)) .1, f .two)
 
 pub names-own : (bytes : List ℕ) (at b : ℕ) → getD bytes at 0 < 5 → b ≡ getD bytes (at + 1) 0 → Names bytes at (record { at = at + 2; count = b })
 names-own bytes at b h c = record {

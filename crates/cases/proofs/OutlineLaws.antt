@@ -6,8 +6,9 @@ use mathlib.Core.Option.{some, none, Option·none-ne-some}
 use Prim.Native.Nat.{ℕ, zero, suc, _+_, _-_, _≤_, _<_}
 use native.Mathlib.Omega.{arith}
 use lib.ListN.{length, getD, set, getElem?, drop, length-set, length-map, take-append-drop}
-use lib.Seq.{drop-drop, drop-append-add, drop-at, getD-drop, getD-set-same, getD-set-other}
+use lib.Seq.{drop-drop, drop-append-add, drop-at, getD-set-same, getD-set-other}
 use Rattle.value.proofs.Decides.{by-test}
+use Rattle.value.proofs.Places.{byte-here}
 use Rattle.text.specs.Answers.{pack}
 use Rattle.meaning.specs.Lists.{isPos, any}
 use Rattle.meaning.specs.Syntax.{Table, View, File}
@@ -54,11 +55,11 @@ frame-at : (bytes packed tail : List ℕ) (at : ℕ) (f : List ℕ) (fs : List (
 frame-at bytes packed tail at f fs b e =
     let all : drop at bytes ≡ length f ∷ f ++ pack fs ++ tail =
     ap (drop at) b ∙ drop-inside packed tail at (length f) (f ++ pack fs) (e ∙ pack-cons f fs) in
-    let n : at ≡ at + 0 = omega arith in
+    let h = byte-here bytes at all in
     let m : at + length f + 1 ≡ at + 1 + length f = omega arith in
-    let here : drop (at + 1) bytes ≡ f ++ (pack fs ++ tail) = sym (drop-drop 1 at bytes) ∙ ap (drop 1) all ∙ append-assoc f (pack fs) tail in
+    let here : drop (at + 1) bytes ≡ f ++ (pack fs ++ tail) = h .1 ∙ append-assoc f (pack fs) tail in
     record {
-      size = ap (λ i. getD bytes i 0) n ∙ sym (getD-drop at bytes 0 0) ∙ ap (λ (l : List ℕ). getD l 0 0) all;
+      size = h .0;
       here = here;
       next = ap (λ i. drop i bytes) m ∙ sym (drop-drop (length f) (at + 1) bytes) ∙ ap (drop (length f)) here ∙ drop-at f (pack fs ++ tail) (length f) refl;
     }

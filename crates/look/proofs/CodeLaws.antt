@@ -4,9 +4,10 @@ use mathlib.Core.List.{List, [], _∷_, _++_, append-assoc, append-nil}
 use Prim.Native.Nat.{ℕ, zero, suc, _+_, _*_, _≤_, _<_}
 use native.Mathlib.Nat.{suc-mul, zero-mul, mul-le-mul}
 use native.Mathlib.Omega.{arith}
-use lib.ListN.{length, getD, set, take, drop, length-append, length-set}
-use lib.Seq.{take-suc-set, getD-drop, drop-drop}
+use lib.ListN.{length, set, take, drop, length-append, length-set}
+use lib.Seq.{take-suc-set}
 use Rattle.value.specs.Bag.{All}
+use Rattle.value.proofs.Places.{element-here}
 use Rattle.meaning.specs.Lists.{copies}
 use Rattle.meaning.specs.Syntax.{Table, File}
 use Rattle.meaning.specs.Candidates.{cellColumns}
@@ -137,10 +138,10 @@ module _ (T : List Table) where
   codes-from t (x ∷ ts) e =
       let none : Table = record { rows = 0; columns = []; key = [] } in
       let s : t + suc (length ts) ≡ suc t + length ts = omega arith in
-      let z : t ≡ t + 0 = omega arith in
-      let z1 : suc t ≡ t + 1 = omega arith in
-      let here : tableAt T t ≡ x = ap (λ i. tableAt T i) z ∙ sym (getD-drop t T 0 none) ∙ ap (λ (l : List Table). getD l 0 none) e in
-      let next : drop (suc t) T ≡ ts = ap (λ i. drop i T) z1 ∙ sym (drop-drop 1 t T) ∙ ap (drop 1) e in
+      let z : suc t ≡ t + 1 = omega arith in
+      let h = element-here T t none e in
+      let here : tableAt T t ≡ x = h .0 in
+      let next : drop (suc t) T ≡ ts = ap (λ i. drop i T) z ∙ h .1 in
       let own : tableCodes t (length (tableAt T t .columns)) (tableAt T t .rows) ≡ tableCodes t (length (x .columns)) (x .rows) =
       ap (λ (y : Table). tableCodes t (length (y .columns)) (y .rows)) here in
       ap codesBefore s ∙ codes-from (suc t) ts next

@@ -11,13 +11,14 @@ use native.Mathlib.Omega.{arith}
 use lib.Dec.{ltb, leb}
 use lib.ListN.{length, getD, drop, drop-of-length-le}
 use Rattle.value.proofs.Decides.{by-test}
+use Rattle.value.proofs.Places.{from-byte}
 use Rattle.meaning.specs.Syntax.{Expr}
 use Rattle.meaning.specs.Reading.{Read, Reader, done, refuse, _>>=_, either, byteIf, twoBytes, step, place}
 use Rattle.prefix.specs.Skipped.{skipped}
 use Rattle.prefix.specs.declared.Skip.{Skip}
 use Rattle.prefix.specs.declared.Skip.the-variants.{Next, Refused}
 use Rattle.prefix.proofs.Ends.{field-if, field-two}
-use Rattle.prefix.proofs.Skips.{level-done, level-at, from-byte, next-is, begins, then-stop}
+use Rattle.prefix.proofs.Skips.{level-done, level-at, next-is, begins, then-stop}
 
 -- ---- one byte
 

@@ -8,10 +8,9 @@ use mathlib.Core.Path.{_≡_, refl, sym, ap, _∙_}
 use mathlib.Core.List.{List, _∷_, _++_}
 use Prim.Native.Nat.{ℕ, _+_, _-_, _≤_, _<_}
 use native.Mathlib.Decide.{decLe}
-use native.Mathlib.Numerals.{add-one}
 use native.Mathlib.Omega.{arith}
-use lib.ListN.{length, getD, drop, length-append, length-drop, drop-of-length-le}
-use lib.Seq.{drop-cons, drop-drop, drop-append-seam}
+use lib.ListN.{length, drop, length-append, length-drop, drop-of-length-le}
+use lib.Seq.{drop-drop, drop-append-seam}
 use Rattle.meaning.specs.Reading.{Read, Reader, done, andThen, _>>=_, readE, readC}
 use Rattle.prefix.specs.Skipped.{skipOf, skipped}
 use Rattle.prefix.specs.declared.Skip.{Skip}
@@ -46,9 +45,6 @@ module _ (frame : List ℕ) where
   level-at at l = l .same frame (drop at frame)
 
   -- ---- positions
-
-  pub from-byte : (at : ℕ) → at < length frame → drop at frame ≡ getD frame at 0 ∷ drop (at + 1) frame
-  from-byte at lt = rw (add-one, drop-cons frame at 0)
 
   pub next-is : {A : Type 0} (m : Reader A) (at n : ℕ) {a : A} → n ≤ length frame → m (drop at frame) ≡ Read.ok a (drop n frame)
       → skipped frame at m ≡ Next n

@@ -9,6 +9,7 @@ use lib.Dec.{leb, eqb}
 use lib.ListN.{length, getD}
 use borrow.Author.Tests.{ne-eqb, eqb-true, eqb-false, le-leb}
 use Rattle.value.proofs.Decides.{by-test}
+use Rattle.value.proofs.Places.{from-byte}
 use Rattle.value.specs.Value.{Operation, Comparison, Connective, aggregateAt}
 use Rattle.meaning.specs.Syntax.{Expr, Cond}
 use Rattle.meaning.specs.Reading.{Reader, done, _>>=_, byte, byteIf, twoBytes, step, place, choose, expressions, conditions, readE, readC}
@@ -17,7 +18,7 @@ use Rattle.prefix.specs.Skipped.{skipOf, skipped, twice, behindE, behind
 use Rattle.prefix.specs.declared.Skip.{Skip}
 use Rattle.prefix.specs.declared.Skip.the-variants.{Next, Refused}
 use Rattle.prefix.proofs.Ends.{fieldE, fieldC}
-use Rattle.prefix.proofs.Skips.{Level, level-refl, level-done, level-bind, level-at, from-byte, next-is, past-end, then-further, then-next, then-stop}
+use Rattle.prefix.proofs.Skips.{Level, level-refl, level-done, level-bind, level-at, next-is, past-end, then-further, then-next, then-stop}
 
 -- a token that is not the least of those left
 pub past : {k t : ℕ} → k ≤ t → (t ≡ k → ⊥) → k + 1 ≤ t

@@ -1,22 +1,23 @@
 -- The fault of a whole frame, byte by byte: a byte and what follows it, a part of fixed size, the end and the rules on the whole frame.
 -- Assumes nothing.
 use mathlib.Core.Path.{_≡_, refl, sym, ap, _∙_}
-use mathlib.Core.Bool.{Bool, true, false}
-use mathlib.Core.List.{List, [], _∷_}
-use Prim.Native.Nat.{ℕ, _+_, _≤_, _<_}
+use mathlib.Core.Bool.{Bool, true}
+use mathlib.Core.List.{List, []}
+use Prim.Native.Nat.{ℕ, _+_}
 use native.Mathlib.Omega.{arith}
 use lib.Dec.{ltb, eqb}
 use lib.ListN.{length, getD, drop}
 use lib.Seq.{drop-drop}
 use borrow.Author.Tests.{ltb-true, ltb-false, eqb-true, eqb-false}
 use Rattle.value.proofs.Decides.{by-test}
+use Rattle.value.proofs.Places.{from-byte}
 use Rattle.meaning.specs.Reading.{Read, Reader, andThen, _>>=_, byteIf}
 use Rattle.rules.specs.Draft.{Draft, Item}
 use Rattle.rules.specs.Frames.{ending, wholeFault}
 use Rattle.rules.specs.Check.{readChecked}
 use Rattle.rules.specs.Faults.{faultOf, faultAt, first}
 use Rattle.rules.specs.Catalogued.{checkedFault, bodyFault}
-use Rattle.rules.proofs.FieldLaws.{Sized, first-none, first-some, at-token, at-end, byte-missing, byte-wrong}
+use Rattle.rules.proofs.FieldLaws.{Sized, first-none, first-some, at-end, byte-missing, byte-wrong}
 
 -- what counts behind a fault counts only where there is none
 pub first-where : (m : ℕ) {a b : ℕ} → (m ≡ 0 → a ≡ b) → first m a ≡ first m b
@@ -48,8 +49,8 @@ module _ (d : Draft) (frame : List ℕ) where
   unfolding faultAt bodyAt
   body-byte at n p k z = by-test (ltb at (length frame))
       (λ l. let h = ltb-true at (length frame) l in by-test (p (getD frame at 0))
-      (λ t. rw (at-token frame at h, t) (sym (first-none _)))
-      (λ t. rw (at-token frame at h, t) (sym (first-some n _ z))))
+      (λ t. rw (from-byte frame at h, t) (sym (first-none _)))
+      (λ t. rw (from-byte frame at h, t) (sym (first-some n _ z))))
       (λ l. let h = ltb-false at (length frame) l in rw (at-end frame at h) (sym (first-some 4 _ (λ e. omega arith))))
 
   -- what follows a part of fixed size may depend on what was read
@@ -68,7 +69,7 @@ module _ (d : Draft) (frame : List ℕ) where
   pub body-end : (at : ℕ) (i : Item) → bodyAt d frame at (ending i) ≡ first (faultAt frame at (ending at)) (wholeFault d i)
   unfolding faultAt bodyAt
   body-end at i = by-test (ltb at (length frame))
-      (λ l. rw (at-token frame at (ltb-true at (length frame) l)) (sym (first-some 4 _ (λ e. omega arith))))
+      (λ l. rw (from-byte frame at (ltb-true at (length frame) l)) (sym (first-some 4 _ (λ e. omega arith))))
       (λ l. rw (at-end frame at (ltb-false at (length frame) l)) (whole ∙ sym (first-none _)))
     where
       whole : checkedFault (readChecked d (Read.ok i [])) ≡ wholeFault d i

@@ -13,6 +13,7 @@ use mir.Val.{SFits}
 use Rattle.value.specs.Bag.{All}
 use Rattle.value.specs.Integer.{bytesZ, low16, high16, highByte, lowByte}
 use Rattle.value.specs.Value.{Column, size}
+use Rattle.value.proofs.Places.{first-behind}
 use Rattle.value.proofs.Linear.{ints}
 use Rattle.value.proofs.TwosComplement.{bytes-back}
 use Rattle.meaning.specs.Lists.{copies, joined}
@@ -25,9 +26,6 @@ use Rattle.rules.specs.Packed.{tooMany, cappedProduct, columnsFrom, tabl
 
 sub-one : (n : ℕ) → suc n - 1 ≡ n
 sub-one n = omega arith
-
-getD-drop-none : (l : List ℕ) (at : ℕ) → getD (drop at l) 0 0 ≡ getD l at 0
-getD-drop-none l at = getD-drop at l 0 0 ∙ ap (λ k. getD l k 0) (omega arith)
 
 -- ---- capped products
 
@@ -66,7 +64,7 @@ fits16 z a b = omega ints
 column-back : (packed : List ℕ) (at : ℕ) (c : Column) (rest : List ℕ) → drop at packed ≡ columnBytes c ++ rest → Bits16 c → columnFrom packed at ≡ c
 unfolding columnFrom
 column-back packed at c rest e b =
-    let zeroth : getD packed at 0 ≡ highByte (c .lo) = sym (getD-drop-none packed at) ∙ ap (λ l. getD l 0 0) e in
+    let zeroth : getD packed at 0 ≡ highByte (c .lo) = sym (first-behind packed at 0) ∙ ap (λ l. getD l 0 0) e in
     let first : getD packed (at + 1) 0 ≡ lowByte (c .lo) = sym (getD-drop at packed 1 0) ∙ ap (λ l. getD l 1 0) e in
     let second : getD packed (at + 2) 0 ≡ highByte (c .hi) = sym (getD-drop at packed 2 0) ∙ ap (λ l. getD l 2 0) e in
     let third : getD packed (at + 3) 0 ≡ lowByte (c .hi) = sym (getD-drop at packed 3 0) ∙ ap (λ l. getD l 3 0) e in
@@ -102,7 +100,7 @@ module _ (packed : List ℕ) where
   cells-back at rest e (All.cons {x = t} {xs = ts} b bs) =
       let left = packedTables ts ++ rest in
       let e′ : drop at packed ≡ length (tableBytes t) ∷ tableBytes t ++ left = e ∙ ap (_∷_ (length (tableBytes t))) (append-assoc (tableBytes t) (packedTables ts) rest) in
-      let size-is : getD packed at 0 ≡ length (tableBytes t) = sym (getD-drop-none packed at) ∙ ap (λ l. getD l 0 0) e in
+      let size-is : getD packed at 0 ≡ length (tableBytes t) = sym (first-behind packed at 0) ∙ ap (λ l. getD l 0 0) e in
       let step : at + getD packed at 0 + 1 ≡ at + suc (length (tableBytes t)) = omega arith in
       let n = suc (length (tableBytes t)) in
       let next : drop (at + getD packed at 0 + 1) packed ≡ left =

@@ -1,15 +1,15 @@
 -- The fault of a reader at a place of a frame: a byte, a byte and what follows it, a repetition, the end. Assumes nothing.
-use mathlib.Core.Path.{_≡_, refl, sym, ap, _∙_}
+use mathlib.Core.Path.{_≡_, refl, sym, _∙_}
 use mathlib.Core.Bool.{Bool, true, false}
-use mathlib.Core.List.{List, [], _∷_}
+use mathlib.Core.List.{List, []}
 use Prim.Native.Nat.{ℕ, _+_, _≤_, _<_}
-use native.Mathlib.Numerals.{add-one}
 use native.Mathlib.Omega.{arith}
 use lib.Dec.{ltb}
 use lib.ListN.{length, getD, drop, drop-of-length-le}
-use lib.Seq.{drop-cons, drop-drop}
+use lib.Seq.{drop-drop}
 use borrow.Author.Tests.{ne-eqb, ltb-true, ltb-false}
 use Rattle.value.proofs.Decides.{by-test}
+use Rattle.value.proofs.Places.{from-byte}
 use Rattle.meaning.specs.Reading.{Read, Reader, andThen, _>>=_, byteIf}
 use Rattle.rules.specs.Frames.{ending}
 use Rattle.rules.specs.Faults.{faultOf, faultAt, first}
@@ -25,9 +25,6 @@ first-some m n h = rw (ne-eqb m 0 h)
 
 -- ---- a byte
 module _ (frame : List ℕ) (at : ℕ) where
-  pub at-token : at < length frame → drop at frame ≡ getD frame at 0 ∷ drop (at + 1) frame
-  at-token h = drop-cons frame at 0 h ∙ ap (λ n. getD frame at 0 ∷ drop n frame) (sym (add-one at))
-
   pub at-end : length frame ≤ at → drop at frame ≡ []
   at-end h = drop-of-length-le frame h
 
@@ -38,11 +35,11 @@ module _ (frame : List ℕ) (at : ℕ) where
 
     pub byte-fits : at < length frame → p (getD frame at 0) ≡ true → faultAt frame at (byteIf n p) ≡ 0
     unfolding faultAt
-    byte-fits h t = rw (at-token h, t)
+    byte-fits h t = rw (from-byte frame at h, t)
 
     pub byte-wrong : at < length frame → p (getD frame at 0) ≡ false → faultAt frame at (byteIf n p) ≡ n
     unfolding faultAt
-    byte-wrong h t = rw (at-token h, t)
+    byte-wrong h t = rw (from-byte frame at h, t)
 
     -- a byte and what follows it
     pub byte-then : {B : Type 0} (k : ℕ → Reader B) → (n ≡ 0 → ⊥)
@@ -50,8 +47,8 @@ module _ (frame : List ℕ) (at : ℕ) where
     unfolding faultAt
     byte-then k z = by-test (ltb at (length frame))
         (λ l. let h = ltb-true at (length frame) l in by-test (p (getD frame at 0))
-        (λ t. rw (at-token h, t) (sym (first-none _)))
-        (λ t. rw (at-token h, t) (sym (first-some n _ z))))
+        (λ t. rw (from-byte frame at h, t) (sym (first-none _)))
+        (λ t. rw (from-byte frame at h, t) (sym (first-some n _ z))))
         (λ l. let h = ltb-false at (length frame) l in rw (at-end h) (sym (first-some 4 _ (λ e. omega arith))))
 
   pub end-here : {A : Type 0} (x : A) → length frame ≤ at → faultAt frame at (ending x) ≡ 0
@@ -60,7 +57,7 @@ module _ (frame : List ℕ) (at : ℕ) where
 
   pub end-surplus : {A : Type 0} (x : A) → at < length frame → faultAt frame at (ending x) ≡ 4
   unfolding faultAt
-  end-surplus x h = rw (at-token h)
+  end-surplus x h = rw (from-byte frame at h)
 
   -- the end does not depend on what was read
   pub end-any : {A B : Type 0} (x : A) (y : B) → faultAt frame at (ending x) ≡ faultAt frame at (ending y)

@@ -13,10 +13,10 @@ use lib.Signed.{leZ}
 use borrow.Author.Tests.{leb-true, ltb-true}
 use Rattle.value.specs.Integer.{bytesZ}
 use Rattle.value.proofs.Decides.{by-test, and-parts}
-use Rattle.range.specs.declared.Range.{Range}
-use Rattle.meaning.specs.Syntax.{View, Pair}
-use Rattle.meaning.specs.Reading.{Read, Reader, done, _>>=_, byteIf}
-use Rattle.meaning.specs.Bounds.{Schema, schema, noSchema, tableSchema, viewSchema}
+use Rattle.value.proofs.Places.{first-behind}
+use Rattle.meaning.specs.Syntax.{Pair}
+use Rattle.meaning.specs.Reading.{Read, done, _>>=_, byteIf}
+use Rattle.meaning.specs.Bounds.{schema, noSchema, tableSchema, viewSchema}
 use Rattle.meaning.proofs.Stacks.{stack-keeps}
 use Rattle.bounds.specs.Catalog.{rangesFrom, widthAt, boundAt, maskAt}
 use Rattle.rules.specs.Draft.{Draft, Item, width, relationCount, schemasOf}
@@ -27,7 +27,7 @@ use Rattle.rules.specs.Layout.{columnsFault, pairsFault, pairing, setVie
 use Rattle.rules.proofs.FieldLaws.{byte-then}
 use Rattle.rules.proofs.SizedLaws.{sized-times, sized-column, sized-pair}
 use Rattle.rules.proofs.PairLaws.{parents-read, pairing-exact}
-use Rattle.rules.proofs.BodyLaws.{first-where, first-zero, byte-passes, bodyAt, body-start, body-byte, body-sized, body-end}
+use Rattle.rules.proofs.BodyLaws.{first-where, first-zero, byte-passes, body-start, body-byte, body-sized, body-end}
 
 five : _≡_ {A = ℕ} 5 0 → ⊥
 five e = omega arith
@@ -56,11 +56,8 @@ module _ (frame : List ℕ) (at : ℕ) where
   column-read : at + 4 ≤ length frame → faultAt frame at columnField
       ≡ cond (leZ (bytesZ (getD frame at 0) (getD frame (at + 1) 0)) (bytesZ (getD frame (at + 2) 0) (getD frame (at + 3) 0))) 0 5
   unfolding faultAt
-  column-read h = rw (← getD-drop at frame 1 0, ← getD-drop at frame 2 0, ← getD-drop at frame 3 0, ← zeroth) (go (drop at frame) (rw (length-drop at frame) (omega arith)))
+  column-read h = rw (← getD-drop at frame 1 0, ← getD-drop at frame 2 0, ← getD-drop at frame 3 0, ← first-behind frame at 0) (go (drop at frame) (rw (length-drop at frame) (omega arith)))
     where
-      zeroth : getD (drop at frame) 0 0 ≡ getD frame at 0
-      zeroth = let e : at + 0 ≡ at = omega arith in getD-drop at frame 0 0 ∙ ap (λ k. getD frame k 0) e
-
       go : (bs : List ℕ) → 4 ≤ length bs
           → faultOf (columnField bs) ≡ cond (leZ (bytesZ (getD bs 0 0) (getD bs 1 0)) (bytesZ (getD bs 2 0) (getD bs 3 0))) 0 5
       go [] l = absurd (omega arith)

@@ -10,6 +10,7 @@ use lib.Seq.{drop-drop, drop-length, length-take-le}
 use borrow.Author.Tests.{ltb-true, ltb-false, leb-true}
 use Rattle.value.specs.Bag.{All}
 use Rattle.value.proofs.Decides.{by-test, and-parts}
+use Rattle.value.proofs.Places.{from-byte}
 use Rattle.meaning.specs.Lists.{all}
 use Rattle.meaning.specs.Syntax.{Expr, Cond, Place, View}
 use Rattle.meaning.specs.Reading.{Read, Reader, done, andThen, _>>=_, byteIf, readE, readC}
@@ -17,7 +18,7 @@ use Rattle.meaning.proofs.Readers.{then-ok}
 use Rattle.bounds.specs.Walk.{placesFrom}
 use Rattle.rules.specs.Draft.{Draft, Item, relationCount, width}
 use Rattle.rules.specs.Frames.{times, field, ending, fromList, placeField, groupedFrame}
-use Rattle.rules.proofs.FieldLaws.{at-token, at-end}
+use Rattle.rules.proofs.FieldLaws.{at-end}
 
 -- ---- lists
 
@@ -80,11 +81,11 @@ pub byte-read : (n : ℕ) (p : ℕ → Bool) (frame : List ℕ) (at b : ℕ) (re
     → (b ≡ getD frame at 0) × (rest ≡ drop (at + 1) frame) × (p b ≡ true) × (at < length frame)
 byte-read n p frame at b rest e = by-test (ltb at (length frame))
     (λ l. let h = ltb-true at (length frame) l in by-test (p (getD frame at 0))
-    (λ t. let z : Read.ok (getD frame at 0) (drop (at + 1) frame) ≡ Read.ok b rest = rw (at-token frame at h, t) at e in
+    (λ t. let z : Read.ok (getD frame at 0) (drop (at + 1) frame) ≡ Read.ok b rest = rw (from-byte frame at h, t) at e in
     let i : getD frame at 0 ≡ b = cc in
     let j : drop (at + 1) frame ≡ rest = cc in
     (sym i, sym j, ap p (sym i) ∙ t, h))
-    (λ t. let z : Read.refused n ≡ Read.ok b rest = rw (at-token frame at h, t) at e in
+    (λ t. let z : Read.refused n ≡ Read.ok b rest = rw (from-byte frame at h, t) at e in
     let y : _≡_ {A = ℕ} 0 1 = cc in absurd (omega arith)))
     (λ l. let z : Read.refused 4 ≡ Read.ok b rest = rw (at-end frame at (ltb-false at (length frame) l)) at e in
     let y : _≡_ {A = ℕ} 0 1 = cc in absurd (omega arith))

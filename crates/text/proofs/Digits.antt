@@ -9,6 +9,7 @@ use lib.Dec.{ltb, eqb}
 use lib.ListN.{length, getD, drop}
 use lib.Seq.{drop-cons}
 use borrow.Author.Tests.{lt-ltb, le-ltb, ne-eqb, ltb-true, ltb-false}
+use Rattle.value.proofs.Places.{from-byte}
 use Rattle.text.specs.Text.{digit, hexDigit}
 use Rattle.text.specs.Pair.{pairOf}
 use Rattle.text.specs.declared.Pair.the-variants.{Byte, Wrong}
@@ -77,14 +78,11 @@ hex-of-digit c = go (ltb c 48) refl (ltb c 58) refl (ltb c 97) refl (ltb c 103) 
 -- ---- what stands at a place
 
 module _ (text : List ℕ) (at : ℕ) where
-  pub drop-one : at < length text → drop at text ≡ getD text at 0 ∷ drop (at + 1) text
-  drop-one h = rw (add-one, drop-cons text at 0)
-
   pub drop-two : at + 1 < length text → drop at text ≡ getD text at 0 ∷ getD text (at + 1) 0 ∷ drop (at + 2) text
   drop-two h =
       let k : at < length text = omega arith in
       let l : suc at < length text = omega arith in
-      drop-one k ∙ ap (λ (r : List ℕ). getD text at 0 ∷ r) (rw (add-one, add-two, drop-cons text (suc at) 0))
+      from-byte text at k ∙ ap (λ (r : List ℕ). getD text at 0 ∷ r) (rw (add-one, add-two, drop-cons text (suc at) 0))
 
 pub pair-short : (text : List ℕ) → length text < 2 → pairOf text ≡ Wrong
 unfolding pairOf

@@ -11,12 +11,12 @@ use lib.Dec.{eqb}
 use lib.ListN.{length, getD, take, drop, set, length-append, length-drop, length-set, drop-of-length-le}
 use lib.Seq.{take-set-le, take-suc-set, drop-set-add, drop-set-lt, take-add, drop-drop}
 use borrow.Author.Tests.{eq-eqb, ne-eqb}
+use Rattle.value.proofs.Places.{from-byte}
 use Rattle.text.specs.Text.{Lines, frames, refused, between, lineAfter, run, ended, linesOf}
 use Rattle.text.specs.Pair.{pairOf}
 use Rattle.text.specs.Answers.{pack, Decoded, Blank}
 use Rattle.text.specs.declared.Frames.{Frames}
 use Rattle.text.specs.declared.Pair.the-variants.{Byte, Wrong}
-use Rattle.text.proofs.Digits.{drop-one}
 use Rattle.text.proofs.Runs.{pair-long, run-byte, run-close, run-no-pair, run-long, run-empty}
 
 pack-snoc : (done : List (List ℕ)) (f : List ℕ) → pack (done ++ f ∷ []) ≡ pack done ++ length f ∷ f
@@ -83,7 +83,7 @@ module _ {text : List ℕ} {r : Frames} {at size : ℕ} (h : Here text r at size
   -- what is left begins with a character, and gives what it gives
   ends : at < length text → (l : Lines) → ended (run (between (h .done) (h .frame)) (getD text at 0 ∷ drop (at + 1) text)) ≡ l → linesOf text ≡ l
   unfolding linesOf
-  ends k l e = ap ended (h .left ∙ ap (run (between (h .done) (h .frame))) (drop-one text at k)) ∙ e
+  ends k l e = ap ended (h .left ∙ ap (run (between (h .done) (h .frame))) (from-byte text at k)) ∙ e
 
   pub empty-line : at < length text → getD text at 0 ≡ 10 → size ≡ 0 → Decoded (linesOf text) r
   empty-line k c z = refuses (ends k _ (run-empty _ _ _ _ (eq-eqb _ 10 c) (nil (h .frame) (omega (arith, h .size-is)))))
@@ -97,7 +97,7 @@ module _ {text : List ℕ} {r : Frames} {at size : ℕ} (h : Here text r at size
 
   -- the character at `at` is no LF
   other : at < length text → (getD text at 0 ≡ 10 → ⊥) → eqb (getD (drop at text) 0 0) 10 ≡ false
-  other k c = rw (drop-one text at k) (ne-eqb _ 10 c)
+  other k c = rw (from-byte text at k) (ne-eqb _ 10 c)
 
   pub no-pair : at < length text → (getD text at 0 ≡ 10 → ⊥) → pairOf (drop at text) ≡ Wrong → Decoded (linesOf text) r
   unfolding linesOf
@@ -133,7 +133,7 @@ module _ {text : List ℕ} {r : Frames} {at size : ℕ} (h : Here text r at size
       record {
         done = h .done ++ h .frame ∷ [];
         frame = [];
-        left = h .left ∙ ap (run (between (h .done) (h .frame))) (drop-one text at k) ∙ run-close (h .done) (h .frame) _ _ (eq-eqb _ 10 c) sized;
+        left = h .left ∙ ap (run (between (h .done) (h .frame))) (from-byte text at k) ∙ run-close (h .done) (h .frame) _ _ (eq-eqb _ 10 c) sized;
         packed = closed-bytes (r .bytes) (r .used) size (omega arith) ∙ rw (h .packed, h .opened, h .size-is, pack-snoc);
         used-is = rw pack-snoc (simp length-append (omega arith));
         opened = refl;

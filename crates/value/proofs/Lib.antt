@@ -1,5 +1,6 @@
 -- The laws, lowest first. Each is stated once, and other crates cite it from here.
 pub mod Decides
+pub mod Places
 pub mod Linear
 pub mod Order
 pub mod Fits
