@@ -9,12 +9,12 @@ use lib.ListN.{length, getElem?, take, length-map, length-take}
 use lib.Seq.{take-at, getD-take}
 use borrow.Author.Tests.{leb-true}
 use Rattle.value.specs.Bag.{All}
-use Rattle.range.specs.declared.Range.{Range}
 use Rattle.meaning.specs.Lists.{stack}
 use Rattle.meaning.specs.Syntax.{View, Table, File}
 use Rattle.meaning.specs.Algebra.{query}
-use Rattle.meaning.specs.Bounds.{Schema, noSchema, schema, schemas, tableSchema, viewSchema, hulls}
+use Rattle.meaning.specs.Bounds.{Schema, noSchema, schema, schemas, tableSchema, viewSchema}
 use Rattle.meaning.proofs.Elements.{all-image, all-append}
+use Rattle.meaning.proofs.Sizes.{length-hulls}
 use Rattle.meaning.proofs.Relations.{query-split}
 use Rattle.meaning.proofs.Stacks.{length-snoc, stack-take, stack-at, length-stack}
 use Rattle.rules.specs.Legal.{Legal, LegalTable, LegalView, EveryView}
@@ -35,11 +35,6 @@ every-at {P} (EveryView.more {q = y} {qs} {ss} p r) (suc k) q e =
     rw l at (every-at r k q e)
 
 -- ---- every relation has room in its stretch
-
-length-hulls : (as′ bs : List Range) → length (hulls as′ bs) ≤ length as′
-length-hulls [] bs = omega arith
-length-hulls (a ∷ as′) [] = omega arith
-length-hulls (a ∷ as′) (b ∷ bs) = let h = length-hulls as′ bs in omega arith
 
 schema-small : {ss : List Schema} → All Small ss → (i : ℕ) → Small (schema ss i)
 schema-small All.nil i = record { bound = omega arith; columns = omega arith }

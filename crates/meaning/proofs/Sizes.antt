@@ -3,19 +3,27 @@ use mathlib.Core.Path.{_≡_, sym}
 use mathlib.Core.Bool.{Bool, true, not, true≢false}
 use mathlib.Core.List.{List, [], _∷_, map, foldr}
 use Prim.Native.Nat.{ℕ, suc, _*_, _≤_, _<_, min}
-use native.Mathlib.Nat.{suc-mul, zero-mul, mul-le-mul}
+use native.Mathlib.Nat.{mul-le-mul}
 use native.Mathlib.Omega.{arith}
-use lib.ListN.{length, length-append, length-map}
+use lib.ListN.{length}
 use Rattle.value.specs.Bag.{Test, All, count, remove}
 use Rattle.value.proofs.Decides.{by-test}
+use Rattle.range.specs.declared.Range.{Range}
 use Rattle.meaning.proofs.ListSteps.{length-pairs}
-use Rattle.meaning.specs.Lists.{Any, isPos, keep, firsts, common, pairs, combinations}
+use Rattle.meaning.specs.Lists.{Any, isPos, keep, firsts, common, combinations}
+use Rattle.meaning.specs.Bounds.{hulls}
 
 -- the product of the bounds bounds the combinations
 pub combinations-bound : {A B : Type 0} (f : A → List B) (n : A → ℕ) {xs : List A} → All (λ x. length (f x) ≤ n x) xs
     → length (combinations (map f xs)) ≤ foldr _*_ 1 (map n xs)
 combinations-bound f n All.nil = omega arith
 combinations-bound f n (All.cons {x} {xs} h hs) = rw (length-pairs (f x) (combinations (map f xs))) (mul-le-mul h (combinations-bound f n hs))
+
+-- one hull for each pair of ranges
+pub length-hulls : (as′ bs : List Range) → length (hulls as′ bs) ≡ min (length as′) (length bs)
+length-hulls [] bs = omega arith
+length-hulls (a ∷ as′) [] = omega arith
+length-hulls (a ∷ as′) (b ∷ bs) = omega (arith, length-hulls as′ bs)
 
 module _ {A : Type 0} where
   pub length-keep : (p : A → Bool) (xs : List A) → length (keep p xs) ≤ length xs

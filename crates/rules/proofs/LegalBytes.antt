@@ -11,7 +11,6 @@ use lib.ListN.{length, getD, length-append, length-map}
 use lib.Signed.{_≤ℤ_}
 use mir.Syntax.{w16}
 use mir.Val.{SFits}
-use Rattle.range.specs.declared.Range.{Range}
 use Rattle.value.specs.Bag.{All}
 use Rattle.value.specs.Integer.{low16, high16, bitsOf, highByte, lowByte}
 use Rattle.value.specs.Value.{Column, Operation, Comparison, Connective, Aggregate}
@@ -21,8 +20,9 @@ use Rattle.meaning.specs.Lists.{joined}
 use Rattle.meaning.specs.Syntax.{Expr, Cond, Place, Pair, View, Table, ForeignKey, Goal, File}
 use Rattle.meaning.specs.Prefix.{operationToken, comparisonToken, connectiveToken, aggregateByte, encodeE, encodeC}
 use Rattle.meaning.specs.Reading.{InLimitsE, InLimitsC}
-use Rattle.meaning.specs.Bounds.{Schema, schema, noSchema, tableSchema, viewSchema, hulls}
+use Rattle.meaning.specs.Bounds.{Schema, schema, noSchema, tableSchema, viewSchema}
 use Rattle.meaning.proofs.Elements.{all-append, all-at, all-image}
+use Rattle.meaning.proofs.Sizes.{length-hulls}
 use Rattle.meaning.proofs.PrefixForms.{constant-fits}
 use Rattle.meaning.proofs.Readers.{Byte}
 use Rattle.meaning.proofs.Stacks.{length-snoc}
@@ -146,17 +146,12 @@ Narrow s = length (s .ranges) ≤ 8
 table-narrow : (t : Table) → LegalTable t → Narrow (tableSchema t)
 table-narrow t h = simp length-map (omega (arith, h .count))
 
-hulls-narrow : (as′ bs : List Range) → length (hulls as′ bs) ≤ length as′
-hulls-narrow [] bs = omega arith
-hulls-narrow (a ∷ as′) [] = omega arith
-hulls-narrow (a ∷ as′) (b ∷ bs) = let h = hulls-narrow as′ bs in omega arith
-
 module _ (t : ℕ) (ss : List Schema) (n : length ss ≤ 16) (narrow : All Narrow ss) where
   view-narrow : (q : View) → ViewFields t ss q → Narrow (viewSchema ss q)
   view-narrow (View.basic fs w es) h = simp length-map (omega (arith, h .select .count))
   view-narrow (View.grouped fs w gs v es) h = simp length-map (omega (arith, h .select .count))
   view-narrow (View.union i j) h =
-      omega (arith, hulls-narrow (schema ss i .ranges) (schema ss j .ranges), all-at narrow noSchema i (h .left .before))
+      omega (arith, length-hulls (schema ss i .ranges) (schema ss j .ranges), all-at narrow noSchema i (h .left .before))
   view-narrow (View.intersection i j) h = all-at narrow noSchema i (h .left .before)
 
   from-bytes : (fs : List ℕ) → LegalFrom ss fs → All Byte fs

@@ -12,6 +12,7 @@ use Rattle.range.specs.declared.Range.{Range}
 use Rattle.range.specs.Ranges.{hullOf}
 use Rattle.meaning.specs.Syntax.{View}
 use Rattle.meaning.specs.Bounds.{Schema, schema, hulls}
+use Rattle.meaning.proofs.Sizes.{length-hulls}
 use Rattle.bounds.specs.Catalog.{widthAt, boundAt, rangesFrom, rangesIn}
 use Rattle.rules.specs.Draft.{Draft, relationCount, schemasOf}
 use Rattle.rules.specs.Catalogued.{Catalogued}
@@ -20,11 +21,6 @@ use Rattle.rules.proofs.CatalogLaws.{none, length-ranges, puts-outside,
 use Rattle.rules.proofs.EntryLaws.{view-entered}
 
 -- ---- hulls
-
-length-hulls : (as′ bs : List Range) → length (hulls as′ bs) ≡ min (length as′) (length bs)
-length-hulls [] bs = omega arith
-length-hulls (a ∷ as′) [] = omega arith
-length-hulls (a ∷ as′) (b ∷ bs) = omega (arith, length-hulls as′ bs)
 
 hulls-at : (as′ bs : List Range) (c : ℕ) → c < length as′ → c < length bs → getD (hulls as′ bs) c none ≡ hullOf (getD as′ c none) (getD bs c none)
 hulls-at [] bs c h k = absurd (omega arith)
