@@ -1,7 +1,7 @@
 -- The range of a column in the catalog, and grouping columns in the frame. Assumes nothing.
 use mathlib.Core.Path.{_≡_, refl, sym, ap, _∙_}
 use mathlib.Core.Bool.{Bool, true, false, _&&_, _||_}
-use mathlib.Core.List.{List, [], _∷_, map}
+use mathlib.Core.List.{List, []}
 use Prim.Native.Nat.{ℕ, zero, suc, _+_, _*_, _-_, _≤_, _<_}
 use native.Mathlib.Omega.{arith}
 use lib.Dec.{eqb}
@@ -15,16 +15,12 @@ use Rattle.range.specs.declared.Ranged.the-variants.{Within}
 use Rattle.range.proofs.Bits32.{ranged-fits}
 use Rattle.meaning.specs.Syntax.{Place}
 use Rattle.meaning.specs.Bounds.{anyColumn, groupingColumn}
+use Rattle.meaning.proofs.ListSteps.{map-at}
 use Rattle.bounds.specs.Catalog.{widthAt, rangesFrom, rangesIn, itemsIn}
 use Rattle.bounds.specs.Walk.{placesFrom, columnIn, columnsOf}
 use Rattle.bounds.specs.declared.Rule.{Rule}
 
 -- ---- columns
-
-mapped : {A B : Type 0} (f : A → B) (xs : List A) (i : ℕ) (a : A) (b : B) → i < length xs → getD (map f xs) i b ≡ f (getD xs i a)
-mapped f [] i a b h = absurd (omega arith)
-mapped f (x ∷ xs) zero a b h = refl
-mapped f (x ∷ xs) (suc i) a b h = mapped f xs i a b (omega arith)
 
 -- the two ends of the column c, from a place on
 abbrev pub endsAt : List ℤ → ℕ → Range
@@ -61,7 +57,7 @@ module _ (shape : List ℕ) (ends : List ℤ) (items : List ℕ) (i c : ℕ) whe
 
     of-relation : columnIn shape ends items i c ≡ getD (rangesIn shape ends relation) c (constantOf (pos 0))
     unfolding columnIn
-    of-relation = ap (λ (rs : List Range). getD rs c (constantOf (pos 0))) (mapped (rangesIn shape ends) items i 0 [] h)
+    of-relation = ap (λ (rs : List Range). getD rs c (constantOf (pos 0))) (map-at (rangesIn shape ends) items i 0 [] h)
 
     pub no-column : widthAt shape relation ≤ c → Answers (constantOf (pos 0))
     unfolding ranged

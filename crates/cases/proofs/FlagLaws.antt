@@ -10,7 +10,7 @@ use borrow.Author.Tests.{eqb-true, eqb-false}
 use Rattle.value.specs.Bag.{All}
 use Rattle.value.proofs.Decides.{by-test}
 use Rattle.value.proofs.Values.{all-map}
-use Rattle.meaning.proofs.Elements.{all-append, all-take}
+use Rattle.meaning.proofs.Elements.{all-append, all-take, all-here}
 use Rattle.cases.specs.Needs.{Flag, More, NamesSet}
 
 -- ---- flags only grow
@@ -108,12 +108,8 @@ names-more bytes at n flags flags′ flags″ b s r e = record {
       ∙ s .others (take n is) (k .last ∷ more) (k .before) (k .size) i (all-take n h);
 }
   where
-    all-end : {P : ℕ → Type 0} (l : List ℕ) {x : ℕ} → All P (l ++ (x ∷ [])) → P x
-    all-end [] (All.cons p ps) = p
-    all-end (y ∷ l) (All.cons p ps) = all-end l ps
-
     all-last : {P : ℕ → Type 0} (is : List ℕ) {x : ℕ} → is ≡ take n is ++ (x ∷ []) → All P is → P x
-    all-last is q h = all-end (take n is) (rw q at h)
+    all-last is q h = all-here (take n is) _ [] (rw q at h)
 
 pub names-all : {bytes : List ℕ} {at n count : ℕ} {flags flags′ : List ℕ} → n ≡ count → NamesSet bytes at n flags flags′
     → NamesSet bytes at count flags flags′

@@ -23,6 +23,7 @@ use Rattle.store.specs.Rows.{rowIn, rowsIn}
 use Rattle.store.proofs.RowLaws.{cell-of-row}
 use Rattle.cases.specs.Given.{TablesIn}
 use Rattle.cases.specs.Validity.{pairsBytes, Agreed, HasParent, ForeignHeld, ForeignsHeld}
+use Rattle.cases.proofs.OutlineLaws.{pack-cons}
 use Rattle.cases.proofs.RowTests.{all-none, all-step, all-stops, any-none, any-step, any-found}
 
 -- ---- lists at a place
@@ -207,10 +208,6 @@ module _ (bytes : List ℕ) (at : ℕ) (counts : List ℕ) (work : List ℤ) {ch
 abbrev noKey : ForeignKey
 noKey = record { child = 0; parent = 0; pairs = [] }
 
-pack-more : (f : List ℕ) (fs : List (List ℕ)) → pack (f ∷ fs) ≡ length f ∷ f ++ pack fs
-unfolding pack
-pack-more f fs = refl
-
 -- the keys from k on still tell, and their frames stand at `next`
 pub record KeysFrom (bytes : List ℕ) (at keys : ℕ) (counts : List ℕ) (work : List ℤ) (next n : ℕ) : Type 0 where
   pub rest-of : (F : File) (d : Database) (ks : List ForeignKey) (rest : List ℕ) → drop at bytes ≡ pack (map keyBytes ks) ++ rest → length ks ≡ keys
@@ -234,7 +231,7 @@ module _ (bytes : List ℕ) (at keys : ℕ) (counts : List ℕ) (work : List ℤ
       frame-stands =
           a .rest-of F d ks rest e l legal s .0
           ∙ ap (λ t. pack (map keyBytes t) ++ rest) (drop-cons ks n noKey (omega arith))
-          ∙ ap (λ t. t ++ rest) (pack-more frame (map keyBytes (drop (suc n) ks)))
+          ∙ ap (λ t. t ++ rest) (pack-cons frame (map keyBytes (drop (suc n) ks)))
           ∙ ap (λ t. length frame ∷ t) (append-assoc frame (pack (map keyBytes (drop (suc n) ks))) rest)
 
       key-told : {r : Bool} → ForeignHeld bytes (next + 1) counts work r → all (foreignKeyHolds d) ks ≡ (r && all (foreignKeyHolds d) (drop (suc n) ks))

@@ -2,7 +2,7 @@
 use mathlib.Core.Path.{_≡_, refl, sym, ap, ap₂, _∙_}
 use mathlib.Core.Bool.{Bool, true, false, not, _&&_, _||_, cond}
 use mathlib.Core.List.{List, [], _∷_}
-use Prim.Native.Nat.{ℕ, suc, _+_, _*_, _/_, _%_, _<_, _≤_}
+use Prim.Native.Nat.{ℕ, suc, _+_, _/_, _%_, _<_, _≤_}
 use native.Mathlib.Omega.{arith}
 use lib.IntN.{ℤ}
 use lib.ListN.{length, getD, drop, drop-of-length-le}
@@ -18,6 +18,7 @@ use Rattle.bounds.specs.Catalog.{widthAt, maskAt}
 use Rattle.rules.specs.Frames.{noTable}
 use Rattle.rules.specs.Legal.{tableAt}
 use Rattle.rules.specs.Written.{maskOf}
+use Rattle.rules.proofs.PairLaws.{bit-first, bits-after}
 use Rattle.store.specs.Layout.{cellIn}
 use Rattle.store.specs.Rows.{rowIn, rowsIn}
 use Rattle.store.proofs.RowLaws.{row-length, cell-of-row}
@@ -26,14 +27,6 @@ use Rattle.cases.specs.Validity.{Differs, DiffersFromEarlier, KeyHeld, K
 use Rattle.cases.proofs.RowTests.{all-none, all-step, all-stops, pairwise-none, pairwise-step, pairwise-stops, each-holds, each-stops}
 
 -- ---- the bits of a mask
-
-mask-odd : (k : Bool) (ks : List Bool) → maskOf (k ∷ ks) % 2 ≡ cond k 1 0
-mask-odd true ks = let m = maskOf ks in let e : (1 + 2 * m) % 2 ≡ 1 = omega arith in e
-mask-odd false ks = let m = maskOf ks in let e : (0 + 2 * m) % 2 ≡ 0 = omega arith in e
-
-mask-half : (k : Bool) (ks : List Bool) → maskOf (k ∷ ks) / 2 ≡ maskOf ks
-mask-half true ks = let m = maskOf ks in let e : (1 + 2 * m) / 2 ≡ m = omega arith in e
-mask-half false ks = let m = maskOf ks in let e : (0 + 2 * m) / 2 ≡ m = omega arith in e
 
 -- "0 no key"
 mask-none : (ks : List Bool) → maskOf ks ≡ 0 → any (λ k. k) ks ≡ false
@@ -78,8 +71,8 @@ module _ (work : List ℤ) (t i j w mask : ℕ) where
         let (a, b) = r .rest key l m in
         let lk : c < length key = omega arith in
         let e : left ≡ maskOf (k ∷ drop (suc c) key) = a ∙ ap maskOf (drop-cons key c false lk) in (
-          ap (λ n. n % 2) e ∙ mask-odd k (drop (suc c) key),
-          ap (λ n. n / 2) e ∙ mask-half k (drop (suc c) key),
+          ap (λ n. n % 2) e ∙ bit-first k (drop (suc c) key),
+          ap (λ n. n / 2) e ∙ bits-after k (drop (suc c) key),
           b ∙ here-next key μ ν c lk (omega (arith, row-length work t w i)) (omega (arith, row-length work t w j))
               ∙ ap₂ (λ u v. (k && not (valueTest .same u v)) || here key μ ν (suc c))
               (cell-of-row work t w i c h ∙ sym ex) (cell-of-row work t w j c h ∙ sym ey),

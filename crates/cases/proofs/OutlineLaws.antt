@@ -34,7 +34,7 @@ pack-append [] b = refl
 pack-append (f ∷ a) b =
     ap (λ (l : List ℕ). length f ∷ f ++ l) (pack-append a b) ∙ ap (λ (l : List ℕ). length f ∷ l) (sym (append-assoc f (pack a) (pack b)))
 
-pack-cons : (f : List ℕ) (fs : List (List ℕ)) → pack (f ∷ fs) ≡ length f ∷ f ++ pack fs
+pub pack-cons : (f : List ℕ) (fs : List (List ℕ)) → pack (f ∷ fs) ≡ length f ∷ f ++ pack fs
 unfolding pack
 pack-cons f fs = refl
 

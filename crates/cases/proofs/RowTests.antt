@@ -8,20 +8,12 @@ use lib.Dec.{eqb}
 use lib.IntN.{ℤ}
 use lib.ListN.{length, getD}
 use borrow.Author.Tests.{eqb-true, eqb-false}
-use Rattle.value.proofs.Decides.{by-test}
+use Rattle.value.proofs.Decides.{by-test, and-cross}
 use Rattle.meaning.specs.Lists.{all, any, pairwise, each}
 use Rattle.meaning.specs.Syntax.{Row}
 use Rattle.rules.proofs.ViewFields.{all-snoc}
 use Rattle.store.specs.Rows.{rowIn, rowsIn}
 use Rattle.store.proofs.RowLaws.{rows-none, rows-more}
-
--- ---- tests of Booleans
-
-and-across : (a b c d : Bool) → ((a && b) && (c && d)) ≡ ((a && c) && (b && d))
-and-across true true c d = refl
-and-across true false true d = refl
-and-across true false false d = refl
-and-across false b c d = refl
 
 -- ---- one element more at the end
 
@@ -34,7 +26,7 @@ module _ {A : Type 0} where
   pairwise-snoc : (p : A → A → Bool) (l : List A) (x : A) → pairwise p (l ++ (x ∷ [])) ≡ (pairwise p l && all (λ y. p y x) l)
   pairwise-snoc p [] x = refl
   pairwise-snoc p (y ∷ l) x =
-      ap₂ (λ (a b : Bool). a && b) (all-snoc (p y) l x) (pairwise-snoc p l x) ∙ and-across (all (p y) l) (p y x) (pairwise p l) (all (λ z. p z x) l)
+      ap₂ (λ (a b : Bool). a && b) (all-snoc (p y) l x) (pairwise-snoc p l x) ∙ and-cross (all (p y) l) (p y x) (pairwise p l) (all (λ z. p z x) l)
 
 -- ---- the rows of a relation
 

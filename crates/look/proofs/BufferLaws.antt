@@ -9,8 +9,8 @@ use lib.ListN.{length, getD, set, take, drop, replicate, length-map, length-set}
 use lib.Seq.{drop-length, getD-take, take-all}
 use Rattle.value.specs.Value.{Value, shown}
 use Rattle.meaning.specs.Look.{zeros}
+use Rattle.meaning.proofs.ListSteps.{map-at}
 use Rattle.store.specs.Layout.{cellIn}
-use Rattle.store.proofs.Listed.{getD-map}
 use Rattle.look.specs.Cells.{cellAt, cellsIn, Codes}
 use Rattle.look.specs.Buffers.{Shows}
 
@@ -45,8 +45,8 @@ length-shown work xs = length-map (map (cellAt work) xs) shown ∙ length-map xs
 shown-at : (work : List ℤ) (xs : List ℕ) (j : ℕ) → j < length xs → getD (shownAll work xs) j (pos 0) ≡ shown (cellAt work (getD xs j 0))
 unfolding cellsIn
 shown-at work xs j h =
-    getD-map shown (map (cellAt work) xs) j (cellAt work 0) (pos 0) (omega (arith, length-map xs (cellAt work)))
-    ∙ ap shown (getD-map (cellAt work) xs j 0 (cellAt work 0) h)
+    map-at shown (map (cellAt work) xs) j (cellAt work 0) (pos 0) (omega (arith, length-map xs (cellAt work)))
+    ∙ ap shown (map-at (cellAt work) xs j 0 (cellAt work 0) h)
 
 -- the first j cells are shown
 pub record Showing (codes : List ℕ) (n : ℕ) (work inst inst′ : List ℤ) (j : ℕ) : Type 0 where

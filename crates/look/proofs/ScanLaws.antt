@@ -1,8 +1,8 @@
 -- The search of a stretch of candidates, from what a test and a move give. Assumes nothing.
 use mathlib.Core.Path.{_≡_, refl, sym, ap, subst, _∙_}
 use mathlib.Core.Bool.{Bool, true, false}
-use mathlib.Core.List.{List, [], _∷_, _++_, map}
-use Prim.Native.Nat.{ℕ, zero, suc, _+_, _*_, _-_, _/_, _%_, _≤_, _<_}
+use mathlib.Core.List.{List, [], _∷_}
+use Prim.Native.Nat.{ℕ, suc, _+_, _-_, _/_, _%_, _≤_, _<_}
 use native.Mathlib.Nat.{div-lt-iff-lt-mul}
 use native.Mathlib.Omega.{arith}
 use lib.Dec.{ltb}
@@ -10,30 +10,27 @@ use lib.IntN.{ℤ}
 use lib.ListN.{length, getD, replicate}
 use borrow.Author.Tests.{ltb-true, ltb-false}
 use Rattle.value.specs.Bag.{All}
-use Rattle.value.specs.Value.{Value}
 use Rattle.value.proofs.Decides.{by-test}
 use Rattle.value.proofs.Values.{all-map}
 use Rattle.meaning.specs.Syntax.{File, Row}
 use Rattle.meaning.specs.Evaluation.{missing}
 use Rattle.meaning.specs.Candidates.{cells, database}
-use Rattle.meaning.specs.Look.{seek, candidate}
+use Rattle.meaning.specs.Look.{candidate}
 use Rattle.meaning.proofs.Demand3.{every-database}
-use Rattle.meaning.proofs.Elements.{all-append, all-at}
-use Rattle.meaning.proofs.Seeks.{Sought, sought-one}
-use Rattle.rules.specs.Legal.{Legal, LegalTable, tableAt}
+use Rattle.meaning.proofs.Elements.{map-same}
+use Rattle.meaning.proofs.Seeks.{sought-one}
+use Rattle.rules.specs.Legal.{Legal}
 use Rattle.rules.proofs.LegalAccepted.{legal-wellFormed}
-use Rattle.store.specs.Layout.{area, cellIn}
-use Rattle.store.specs.Rows.{listed, rowsIn}
 use Rattle.store.proofs.RowLaws.{cell-of-rows}
 use Rattle.views.proofs.Marking.{never}
-use Rattle.cases.specs.Given.{Given, TablesIn, TablesCounted}
-use Rattle.cases.specs.Needs.{Covers, NeedsOf}
+use Rattle.cases.specs.Given.{TablesCounted}
+use Rattle.cases.specs.Needs.{NeedsOf}
 use Rattle.cases.specs.Judgement.{Ready, TablesKept, Judges}
 use Rattle.cases.specs.declared.outline.Outline.{Outline}
 use Rattle.cases.proofs.Preparing.{counts-are}
-use Rattle.look.specs.Cells.{code, rowCodes, tableCodes, allCodes, codesOf, cellAt, cellsIn}
+use Rattle.look.specs.Cells.{codesOf, cellAt, cellsIn}
 use Rattle.look.specs.Moves.{Digits, Placed, Moved}
-use Rattle.look.specs.Scans.{Passed, Plan, At, Tests, Scans, Searches}
+use Rattle.look.specs.Scans.{Plan, At, Tests, Scans, Searches}
 use Rattle.look.proofs.Distinct.{Rising, rising-within, codes-inside}
 use Rattle.look.proofs.Standing.{tables-stand}
 
@@ -45,10 +42,6 @@ rising-below {lo} {hi} {xs} r = all-of xs (λ j h. rising-within r j h .1)
     all-of : {P : ℕ → Type 0} (xs : List ℕ) → ((j : ℕ) → j < length xs → P (getD xs j 0)) → All P xs
     all-of [] h = All.nil
     all-of (x ∷ xs) h = All.cons (h 0 (omega arith)) (all-of xs (λ j l. h (suc j) (omega arith)))
-
-map-same : {A B : Type 0} (f g : A → B) {xs : List A} → All (λ x. f x ≡ g x) xs → map f xs ≡ map g xs
-map-same f g All.nil = refl
-map-same f g (All.cons e es) = rw (e, map-same f g es)
 
 module _ {F : File} (L : Legal F) where
   codes-tables : All (λ x. x / 32 < length (F .tables)) (codesOf F)

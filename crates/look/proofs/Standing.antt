@@ -2,11 +2,10 @@
 use mathlib.Core.Path.{_≡_, refl, sym, ap, ap₂, _∙_}
 use mathlib.Core.List.{List, [], _∷_, _++_, map, map-append, append-assoc, append-nil}
 use Prim.Native.Nat.{ℕ, zero, suc, _+_, _*_, _/_, _%_, _≤_, _<_}
-use native.Mathlib.Nat.{suc-mul, zero-mul}
 use native.Mathlib.Omega.{arith}
 use lib.IntN.{ℤ}
-use lib.ListN.{length, getD, drop, length-append}
-use lib.Seq.{drop-drop, take-at, drop-at}
+use lib.ListN.{length, getD, drop}
+use lib.Seq.{drop-drop, drop-at}
 use Rattle.value.specs.Bag.{All}
 use Rattle.value.specs.Value.{Value, Column}
 use Rattle.value.proofs.Values.{all-map}
@@ -15,6 +14,7 @@ use Rattle.meaning.specs.Syntax.{Table, File, Row, Database}
 use Rattle.meaning.specs.Candidates.{cellColumns, cutRows, cut, cells, database}
 use Rattle.meaning.proofs.Elements.{all-append}
 use Rattle.meaning.proofs.ListSteps.{map-at}
+use Rattle.meaning.proofs.Numbering.{length-joined, cut-joined}
 use Rattle.bounds.specs.Catalog.{widthAt, boundAt}
 use Rattle.rules.specs.Entries.{columnFrom}
 use Rattle.rules.specs.Packed.{columnsFrom}
@@ -25,6 +25,7 @@ use Rattle.rules.proofs.PlanLaws.{legal-bits}
 use Rattle.store.specs.Layout.{cellIn}
 use Rattle.store.specs.Rows.{listed, rowIn, rowsIn}
 use Rattle.store.proofs.Listed.{listed-same, length-listed, listed-getD}
+use Rattle.store.proofs.RowLaws.{rows-length}
 use Rattle.cases.specs.Given.{Given}
 use Rattle.cases.specs.declared.outline.Outline.{Outline}
 use Rattle.cases.proofs.OutlineLaws.{bound-is}
@@ -64,17 +65,6 @@ joined-snoc (x ∷ R) r = ap (λ l. x ++ l) (joined-snoc R r) ∙ sym (append-as
 copies-snoc : {A : Type 0} (n : ℕ) (xs : List A) → copies n xs ++ xs ≡ xs ++ copies n xs
 copies-snoc zero xs = sym (append-nil xs)
 copies-snoc (suc n) xs = append-assoc xs (copies n xs) xs ∙ ap (λ l. xs ++ l) (copies-snoc n xs)
-
-length-joined : {A : Type 0} (w : ℕ) {R : List (List A)} → All (λ r. length r ≡ w) R → length (joined R) ≡ length R * w
-length-joined w All.nil = sym (zero-mul w)
-length-joined w (All.cons {x = r} {xs = R} p ps) = length-append r (joined R) ∙ omega (arith, p, length-joined w ps, suc-mul (length R) w)
-
--- rows of w elements in a row, and cut again
-cut-joined : {A : Type 0} (w : ℕ) {R : List (List A)} (vs : List A) → All (λ r. length r ≡ w) R → cutRows (length R) w (joined R ++ vs) ≡ R
-cut-joined w vs All.nil = refl
-cut-joined w vs (All.cons {x = r} {xs = R} p ps) =
-    let rest = joined R ++ vs in
-    rw (append-assoc r (joined R) vs, take-at r rest w p, drop-at r rest w p, cut-joined w vs ps)
 
 -- ---- the column of a code
 
@@ -193,10 +183,6 @@ module _ (work : List ℤ) where
   unfolding rowsIn rowIn
   rows-wide t w n = all-listed (rowIn work t w) n (λ i. length-listed (cellIn work t i) w)
 
-  rows-number : (t w n : ℕ) → length (rowsIn work t w n) ≡ n
-  unfolding rowsIn
-  rows-number t w n = length-listed (rowIn work t w) n
-
   -- the tables from table t on, cut from their cells
   cut-table : (t : ℕ) (x : Table) (ts : List Table) → LegalTable x → cut (x ∷ ts) (map (cellAt work) (codesFrom t (x ∷ ts)))
       ≡ rowsIn work t (length (x .columns)) (x .rows) ∷ cut ts (map (cellAt work) (codesFrom (suc t) ts))
@@ -209,8 +195,8 @@ module _ (work : List ℤ) where
       map-append (cellAt work) (tableCodes t w n) (codesFrom (suc t) ts)
       ∙ ap (λ (vs : List Value). vs ++ rest) (table-cells t w n (l .rows .most) (l .count .most)) in
       let own : cutRows n w (joined R ++ rest) ≡ R =
-      ap (λ k. cutRows k w (joined R ++ rest)) (sym (rows-number t w n)) ∙ cut-joined w rest (rows-wide t w n) in
-      let size : length (joined R) ≡ n * w = length-joined w (rows-wide t w n) ∙ ap (λ k. k * w) (rows-number t w n) in
+      ap (λ k. cutRows k w (joined R ++ rest)) (sym (rows-length work t w n)) ∙ cut-joined w rest (rows-wide t w n) in
+      let size : length (joined R) ≡ n * w = length-joined w (rows-wide t w n) ∙ ap (λ k. k * w) (rows-length work t w n) in
       let others : drop (n * w) (joined R ++ rest) ≡ rest = drop-at (joined R) rest (n * w) size in
       ap (λ (vs : List Value). cut (x ∷ ts) vs) whole ∙ ap₂ (λ (d : List Row) (vs : List Value). d ∷ cut ts vs) own others
 

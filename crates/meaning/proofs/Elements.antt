@@ -1,5 +1,5 @@
 -- What holds of each element, of some element and of two lists element by element. Assumes nothing.
-use mathlib.Core.Path.{_≡_, refl, ap}
+use mathlib.Core.Path.{_≡_, refl}
 use mathlib.Core.Bool.{Bool, true, not}
 use mathlib.Core.List.{List, [], _∷_, _++_, map}
 use Prim.Native.Nat.{ℕ, zero, suc, _<_}
@@ -29,10 +29,27 @@ pub all-image : {A B : Type 0} (f : A → B) {P : A → Type 0} {Q : B → Type 
 all-image f g All.nil = All.nil
 all-image f g (All.cons {x} p ps) = All.cons (g x p) (all-image f g ps)
 
+-- functions that agree on each element
+pub map-same : {A B : Type 0} (f g : A → B) {xs : List A} → All (λ x. f x ≡ g x) xs → map f xs ≡ map g xs
+map-same f g All.nil = refl
+map-same f g (All.cons e es) = rw (e, map-same f g es)
+
 module _ {A : Type 0} {P : A → Type 0} where
   pub all-append : {xs ys : List A} → All P xs → All P ys → All P (xs ++ ys)
   all-append All.nil qs = qs
   all-append (All.cons p ps) qs = All.cons p (all-append ps qs)
+
+  pub all-before : (xs ys : List A) → All P (xs ++ ys) → All P xs
+  all-before [] ys ps = All.nil
+  all-before (x ∷ xs) ys (All.cons p ps) = All.cons p (all-before xs ys ps)
+
+  pub all-behind : (xs : List A) {ys : List A} → All P (xs ++ ys) → All P ys
+  all-behind [] ps = ps
+  all-behind (x ∷ xs) (All.cons p ps) = all-behind xs ps
+
+  pub all-here : (xs : List A) (x : A) (ys : List A) → All P (xs ++ (x ∷ ys)) → P x
+  all-here [] x ys (All.cons p ps) = p
+  all-here (y ∷ xs) x ys (All.cons p ps) = all-here xs x ys ps
 
   -- by number
   pub all-at : {xs : List A} → All P xs → (d : A) (i : ℕ) → i < length xs → P (getD xs i d)

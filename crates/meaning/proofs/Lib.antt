@@ -1,9 +1,10 @@
 -- The theorems on the meaning, lowest first.
+-- what holds of elements
+pub mod Elements
 -- prefix forms are read in one way
 pub mod Readers
 pub mod PrefixForms
 -- lists, bags and stacks
-pub mod Elements
 pub mod DecidedLists
 pub mod ListBags
 pub mod ListSteps

@@ -13,6 +13,7 @@ use Rattle.value.specs.Bag.{All}
 use Rattle.value.specs.Value.{Value, Column, Within}
 use Rattle.value.proofs.Decides.{and-parts}
 use Rattle.value.proofs.Linear.{leZ-true}
+use Rattle.value.proofs.Values.{all-map}
 use Rattle.meaning.specs.Lists.{Each, all, copies, joined}
 use Rattle.meaning.specs.Syntax.{Table, File, Row, Database}
 use Rattle.meaning.specs.Valid.{InRange}
@@ -64,6 +65,17 @@ pub joined-cutRows : {A : Type 0} (n w : ℕ) (xs : List A) → joined (cutRows 
 joined-cutRows zero w xs = rw (zero-mul w)
 joined-cutRows (suc n) w xs = rw (joined-cutRows n w (drop w xs), suc-mul n w, add-comm (n * w) w) (sym (take-add w (n * w) xs))
 
+-- rows of w elements in a row, and cut again
+pub length-joined : {A : Type 0} (w : ℕ) {R : List (List A)} → All (λ r. length r ≡ w) R → length (joined R) ≡ length R * w
+length-joined w All.nil = sym (zero-mul w)
+length-joined w (All.cons {x = r} {xs = R} p ps) = length-append r (joined R) ∙ omega (arith, p, length-joined w ps, suc-mul (length R) w)
+
+pub cut-joined : {A : Type 0} (w : ℕ) {R : List (List A)} (vs : List A) → All (λ r. length r ≡ w) R → cutRows (length R) w (joined R ++ vs) ≡ R
+cut-joined w vs All.nil = refl
+cut-joined w vs (All.cons {x = r} {xs = R} p ps) =
+    let rest = joined R ++ vs in
+    rw (append-assoc r (joined R) vs, take-at r rest w p, drop-at r rest w p, cut-joined w vs ps)
+
 module _ (cs : List Column) where
   -- each of the first n rows of cells lies in its columns, and the rest in theirs
   cutRows-within : (n : ℕ) {rest : List Column} {vs : List Value} → Each Within (copies n cs ++ rest) vs
@@ -78,16 +90,8 @@ module _ (cs : List Column) where
   joined-within All.nil = Each.nil
   joined-within (All.cons p ps) = each-append p (joined-within ps)
 
-  length-joined : {R : List Row} → All (Each Within cs) R → length (joined R) ≡ length R * length cs
-  length-joined All.nil = sym (zero-mul (length cs))
-  length-joined (All.cons {x = r} {xs = R} p ps) = rw (length-append r (joined R)) (omega (arith, each-length p, length-joined ps, suc-mul (length R) (length cs)))
-
-  cutRows-joined : {R : List Row} (vs : List Value) → All (Each Within cs) R → cutRows (length R) (length cs) (joined R ++ vs) ≡ R
-  cutRows-joined vs All.nil = refl
-  cutRows-joined vs (All.cons {x = r} {xs = R} p ps) =
-      let n = each-length p in
-      let rest = joined R ++ vs in
-      rw (append-assoc r (joined R) vs, take-at r rest (length cs) n, drop-at r rest (length cs) n, cutRows-joined vs ps)
+  rows-wide : {R : List Row} → All (Each Within cs) R → All (λ r. length r ≡ length cs) R
+  rows-wide ps = all-map (λ r p. each-length p) ps
 
 -- ---- tables: cut and flattened
 
@@ -112,8 +116,9 @@ pub cut-flat : {ts : List Table} {d : Database} → Each InRange ts d → cut ts
 cut-flat Each.nil = refl
 cut-flat (Each.cons {x = t} {y = R} {ys = d} r rs) =
     let cs = t .columns in
-    let rest = drop-at (joined R) (flat d) (length R * length cs) (length-joined cs (r .values)) in
-    rw (← r .rows, cutRows-joined cs (flat d) (r .values), rest, cut-flat rs)
+    let wide = rows-wide cs (r .values) in
+    let rest = drop-at (joined R) (flat d) (length R * length cs) (length-joined (length cs) wide) in
+    rw (← r .rows, cut-joined (length cs) (flat d) wide, rest, cut-flat rs)
 
 -- ---- the numbering
 

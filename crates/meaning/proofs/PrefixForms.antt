@@ -53,7 +53,7 @@ aggregate-back (suc zero) h = refl
 aggregate-back (suc (suc zero)) h = refl
 aggregate-back (suc (suc (suc n))) h = let z : n ≡ 0 = omega arith in rw z
 
-aggregate-at : (op : Aggregate) → (leb (aggregateByte op) 3 ≡ true) × (aggregateAt (aggregateByte op) ≡ op)
+pub aggregate-at : (op : Aggregate) → (leb (aggregateByte op) 3 ≡ true) × (aggregateAt (aggregateByte op) ≡ op)
 aggregate-at Aggregate.count = (refl, refl)
 aggregate-at Aggregate.sum = (refl, refl)
 aggregate-at Aggregate.minimum = (refl, refl)

@@ -15,13 +15,10 @@ use borrow.Author.Tests.{eqb-true, leb-true}
 use Rattle.value.specs.Bag.{All}
 use Rattle.value.proofs.Decides.{and-parts}
 use Rattle.meaning.specs.Reading.{Read, Reader, done, refuse, andThen, _>>=_, byte, either, byteIf, twoBytes, choose, step}
+use Rattle.meaning.proofs.Elements.{all-behind}
 
 abbrev pub Byte : ℕ → Type 0
 Byte b = b < 256
-
-all-behind : {A : Type 0} {P : A → Type 0} (xs : List A) {ys : List A} → All P (xs ++ ys) → All P ys
-all-behind [] h = h
-all-behind (x ∷ xs) (All.cons p h) = all-behind xs h
 
 -- a chain that ends well began well
 pub then-ok : {A B : Type 0} (m : Read A) (f : A → Reader B) {b : B} {rest : List ℕ} → andThen m f ≡ Read.ok b rest

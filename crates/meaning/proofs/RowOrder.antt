@@ -1,6 +1,6 @@
 -- The order of the tables' rows does not count: not for validity, and so not for cases. Assumes nothing.
 use mathlib.Core.Path.{_≡_, refl, ap, ap₂, _∙_, fun-ext}
-use mathlib.Core.Bool.{Bool, true, false, _&&_, _||_}
+use mathlib.Core.Bool.{Bool, true, _&&_, _||_}
 use mathlib.Core.List.{List, [], _∷_}
 use mathlib.Core.Option.{Option, none, some}
 use Prim.Native.Nat.{ℕ, zero, suc, _+_, _<_, _≤_}
@@ -9,7 +9,7 @@ use lib.ListN.{length, getD}
 use Rattle.value.specs.Bag.{Same, Test, count, remove}
 use Rattle.value.specs.Value.{size, valueTest, within}
 use Rattle.value.proofs.Bags.{nil-only, pulled, same-tail}
-use Rattle.value.proofs.Decides.{by-test}
+use Rattle.value.proofs.Decides.{by-test, and-cross}
 use Rattle.meaning.specs.Algebra.{Bag, SameTables, below, query}
 use Rattle.meaning.specs.Cases.{hasRow, isCase, negative, refuted, someRow}
 use Rattle.meaning.specs.Evaluation.{rowTest}
@@ -21,10 +21,6 @@ use Rattle.meaning.proofs.DecidedCases.{query-lt}
 use Rattle.meaning.proofs.ListBags.{all-bag, and-swap, any-bag, length-bag, same-comm}
 use Rattle.meaning.proofs.Operations.{rows-one}
 use Rattle.meaning.proofs.Relations.{below-one, meaning-rows, rows-permuted}
-
-and-cross : (q u v w : Bool) → ((q && u) && (v && w)) ≡ ((q && v) && (u && w))
-and-cross true u v w = and-swap u v w
-and-cross false u v w = refl
 
 -- a test of each pair that does not see their order
 module _ {A : Type 0} (E : Test A) (p : A → A → Bool) (p-comm : (a b : A) → p a b ≡ p b a) where

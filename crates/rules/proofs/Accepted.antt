@@ -5,12 +5,13 @@
 --     accepted-written       and the frames are those of the file
 -- Assumes nothing.
 use mathlib.Core.Path.{_≡_, refl, sym, ap, subst, _∙_}
-use mathlib.Core.Bool.{Bool, true, _&&_}
+use mathlib.Core.Bool.{Bool, true}
 use mathlib.Core.List.{List, [], _∷_, _++_, map, map-append, append-assoc, append-nil}
 use mathlib.Core.Option.{Option, none, some}
 use Prim.Native.Nat.{ℕ, suc, _≤_}
 use borrow.Author.Tests.{lt-ltb}
 use Rattle.value.specs.Bag.{All}
+use Rattle.value.proofs.Decides.{and-both}
 use Rattle.meaning.specs.Lists.{stackAll}
 use Rattle.meaning.specs.Syntax.{Table, ForeignKey, View, Goal, File}
 use Rattle.meaning.specs.Bounds.{Schema, viewSchema, ordered, earlier, sameWidth, aggregatesFit, bounded, rangesFit, wellFormed}
@@ -55,9 +56,6 @@ module _ (fs : List (List ℕ)) (F : File) (a : checkAll fs ≡ Outcome.accepted
 
   pub accepted-candidates : candidates F ≤ candidateLimit
   accepted-candidates = let (d, k, e) = well-end in finished-file d F e .number
-
-and-both : {x y : Bool} → x ≡ true → y ≡ true → (x && y) ≡ true
-and-both {x} {y} p q = rw (p, q)
 
 every-true : {P : List Schema → View → Type 0} (p : List Schema → View → Bool) → ((ss : List Schema) (q : View) → P ss q → p ss q ≡ true)
     → {qs : List View} {ss : List Schema} → EveryView P qs ss → stackAll viewSchema p qs ss ≡ true

@@ -4,21 +4,17 @@ use mathlib.Core.List.{List, [], _∷_, _++_, map, append-assoc}
 use Prim.Native.Nat.{ℕ, zero, suc, _+_, _*_, _-_, _≤_, _<_, min}
 use native.Mathlib.Nat.{mul-assoc, mul-pos, mul-le-mul-right}
 use native.Mathlib.Omega.{arith}
-use lib.IntN.{ℤ}
 use lib.ListN.{length, getD, drop}
 use lib.Seq.{getD-drop, drop-drop, drop-at}
-use lib.Signed.{_≤ℤ_}
-use mir.Syntax.{w16}
-use mir.Val.{SFits}
 use Rattle.value.specs.Bag.{All}
-use Rattle.value.specs.Integer.{bytesZ, low16, high16, highByte, lowByte}
+use Rattle.value.specs.Integer.{bytesZ, highByte, lowByte}
 use Rattle.value.specs.Value.{Column, size}
 use Rattle.value.proofs.Places.{first-behind}
-use Rattle.value.proofs.Linear.{ints}
 use Rattle.value.proofs.TwosComplement.{bytes-back}
 use Rattle.meaning.specs.Lists.{copies, joined}
 use Rattle.meaning.specs.Syntax.{Table}
 use Rattle.meaning.specs.Candidates.{product, cellColumns}
+use Rattle.meaning.proofs.PrefixForms.{constant-fits}
 use Rattle.meaning.proofs.Stacks.{by-lt}
 use Rattle.rules.specs.Written.{columnBytes, tableBytes}
 use Rattle.rules.specs.Entries.{columnFrom}
@@ -58,9 +54,6 @@ capped-product n (c ∷ cs) h =
 
 -- ---- columns of packed bytes
 
-fits16 : (z : ℤ) → low16 ≤ℤ z → z ≤ℤ high16 → SFits w16 z
-fits16 z a b = omega ints
-
 column-back : (packed : List ℕ) (at : ℕ) (c : Column) (rest : List ℕ) → drop at packed ≡ columnBytes c ++ rest → Bits16 c → columnFrom packed at ≡ c
 unfolding columnFrom
 column-back packed at c rest e b =
@@ -69,8 +62,8 @@ column-back packed at c rest e b =
     let second : getD packed (at + 2) 0 ≡ highByte (c .hi) = sym (getD-drop at packed 2 0) ∙ ap (λ l. getD l 2 0) e in
     let third : getD packed (at + 3) 0 ≡ lowByte (c .hi) = sym (getD-drop at packed 3 0) ∙ ap (λ l. getD l 3 0) e in
     ap₂ (λ l h. record { lo = l; hi = h })
-    (ap₂ bytesZ zeroth first ∙ bytes-back (c .lo) (fits16 (c .lo) (b .lo-above) (b .lo-below)))
-    (ap₂ bytesZ second third ∙ bytes-back (c .hi) (fits16 (c .hi) (b .hi-above) (b .hi-below)))
+    (ap₂ bytesZ zeroth first ∙ bytes-back (c .lo) (constant-fits (c .lo) (b .lo-above) (b .lo-below)))
+    (ap₂ bytesZ second third ∙ bytes-back (c .hi) (constant-fits (c .hi) (b .hi-above) (b .hi-below)))
 
 pub columns-back : (packed : List ℕ) (at : ℕ) {cs : List Column} (rest : List ℕ) → drop at packed ≡ joined (map columnBytes cs) ++ rest → All Bits16 cs
     → columnsFrom packed at (length cs) ≡ cs

@@ -1,7 +1,7 @@
 -- The arrays stand for a draft with one relation more. Assumes nothing.
-use mathlib.Core.Path.{_≡_, refl, sym, ap, ap₂, _∙_}
+use mathlib.Core.Path.{_≡_, sym, ap, ap₂, _∙_}
 use mathlib.Core.Logic.{inl, inr}
-use mathlib.Core.List.{List, [], _∷_, _++_, map}
+use mathlib.Core.List.{List, [], _∷_, _++_, map, map-append}
 use Prim.Native.Nat.{ℕ, _+_, _*_, _≤_, _<_}
 use native.Mathlib.Omega.{arith}
 use lib.IntN.{ℤ}
@@ -31,15 +31,8 @@ by-eq m n y f = by-test (eqb m n) (λ e. y (eqb-true m n e)) (λ e. f (eqb-false
 pub view-schemas : (d : Draft) (q : View) → schemasOf (added d (Item.view q)) ≡ schemasOf d ++ (viewSchema (schemasOf d) q ∷ [])
 view-schemas d q = stack-append viewSchema (d .views) (q ∷ []) (map tableSchema (d .tables))
 
-map-snoc : {A B : Type 0} (f : A → B) (xs : List A) (x : A) → map f (xs ++ (x ∷ [])) ≡ map f xs ++ (f x ∷ [])
-map-snoc f [] x = refl
-map-snoc f (y ∷ xs) x = ap (_∷_ (f y)) (map-snoc f xs x)
-
 pub table-schemas : (d : Draft) (t : Table) → d .views ≡ [] → schemasOf (added d (Item.table t)) ≡ schemasOf d ++ (tableSchema t ∷ [])
-table-schemas d t e = rw e (map-snoc tableSchema (d .tables) t)
-
-pub length-schemas : (d : Draft) → length (schemasOf d) ≡ relationCount d
-length-schemas d = count-schemas d
+table-schemas d t e = rw e (map-append tableSchema (d .tables) (t ∷ []))
 
 -- ---- one relation more in the arrays
 
@@ -124,7 +117,7 @@ view-entered d q r kind width bound mask shape ends shape′ ends′ c e l w p o
       shape-size = shape-kept s;
       ends-size = ends-kept s;
       schemas = λ i. rw (view-schemas d q)
-          (schemas-more s (schemasOf d) (viewSchema (schemasOf d) q) (c .widths) (c .schemas) (e ∙ sym (length-schemas d)) (sym v) i);
+          (schemas-more s (schemasOf d) (viewSchema (schemasOf d) q) (c .widths) (c .schemas) (e ∙ sym (count-schemas d)) (sym v) i);
       widths = widths-kept s (c .widths);
       masks = λ i h. mask-other s i (λ n. omega arith) ∙ c .masks i h;
     }
@@ -138,7 +131,7 @@ pub table-entered : (d : Draft) (t : Table) (r kind width bound mask : ℕ) (sha
 table-entered d t r kind width bound mask shape ends shape′ ends′ c e l first w p o v m =
     let s : Stored r kind width bound mask shape ends shape′ ends′ =
     record { four = p; outside = o; place = l; narrow = w; shape-size = c .shape-size; ends-size = c .ends-size } in
-    let n : r ≡ length (schemasOf d) = omega (arith, length-schemas d, ap length first) in
+    let n : r ≡ length (schemasOf d) = omega (arith, count-schemas d, ap length first) in
     record {
       shape-size = shape-kept s;
       ends-size = ends-kept s;

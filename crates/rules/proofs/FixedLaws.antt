@@ -2,12 +2,12 @@
 -- Assumes nothing.
 use mathlib.Core.Path.{_≡_, refl, sym, ap, ap₂, _∙_}
 use mathlib.Core.Bool.{Bool, true, false, cond}
-use mathlib.Core.List.{List, [], _∷_, map}
-use Prim.Native.Nat.{ℕ, zero, suc, _+_, _*_, _^_, _≤_, _<_, min}
+use mathlib.Core.List.{List, [], _∷_}
+use Prim.Native.Nat.{ℕ, _+_, _*_, _^_, _≤_, _<_, min}
 use native.Mathlib.Omega.{arith}
 use lib.Dec.{leb}
 use lib.IntN.{ℤ}
-use lib.ListN.{length, getD, drop, length-drop, length-map, List·getD-map}
+use lib.ListN.{length, getD, drop, length-drop}
 use lib.Seq.{getD-drop}
 use lib.Signed.{leZ}
 use borrow.Author.Tests.{leb-true, ltb-true}
@@ -16,15 +16,16 @@ use Rattle.value.proofs.Decides.{by-test, and-parts}
 use Rattle.value.proofs.Places.{first-behind}
 use Rattle.meaning.specs.Syntax.{Pair}
 use Rattle.meaning.specs.Reading.{Read, done, _>>=_, byteIf}
-use Rattle.meaning.specs.Bounds.{schema, noSchema, tableSchema, viewSchema}
-use Rattle.meaning.proofs.Stacks.{stack-keeps}
-use Rattle.bounds.specs.Catalog.{rangesFrom, widthAt, boundAt, maskAt}
+use Rattle.meaning.specs.Bounds.{schema}
+use Rattle.bounds.specs.Catalog.{widthAt, boundAt, maskAt}
 use Rattle.rules.specs.Draft.{Draft, Item, width, relationCount, schemasOf}
 use Rattle.rules.specs.Frames.{ending, times, columnField, pairField, tableFrame, keyFrame, setFrame, goalFrame, wholeFault, noTable}
 use Rattle.rules.specs.Faults.{faultOf, faultAt, first, under, within, fromUnder}
 use Rattle.rules.specs.Catalogued.{Catalogued, bodyFault}
 use Rattle.rules.specs.Layout.{columnsFault, pairsFault, pairing, setView, setBound, setRules, KeysFit}
 use Rattle.rules.proofs.FieldLaws.{byte-then}
+use Rattle.rules.proofs.Turns.{width-table}
+use Rattle.rules.proofs.CatalogLaws.{length-ranges}
 use Rattle.rules.proofs.SizedLaws.{sized-times, sized-column, sized-pair}
 use Rattle.rules.proofs.PairLaws.{parents-read, pairing-exact}
 use Rattle.rules.proofs.BodyLaws.{first-where, first-zero, byte-passes, body-start, body-byte, body-sized, body-end}
@@ -118,25 +119,12 @@ module _ (d : Draft) (frame : List ℕ) where
 -- ---- 05 union, 06 intersection
 
 module _ {d : Draft} {shape : List ℕ} {ends : List ℤ} (known : Catalogued d shape ends) where
-  length-ranges : (at n : ℕ) → length (rangesFrom ends at n) ≡ n
-  unfolding rangesFrom
-  length-ranges at zero = refl
-  length-ranges at (suc n) = ap suc (length-ranges (at + 2) n)
-
   -- a relation's number of columns and its row bound
   pub width-known : (i : ℕ) → width d i ≡ widthAt shape i
-  width-known i = sym (ap (λ s. length (s .ranges)) (known .schemas i)) ∙ length-ranges (16 * i) (widthAt shape i)
+  width-known i = sym (ap (λ s. length (s .ranges)) (known .schemas i)) ∙ length-ranges ends (16 * i) (widthAt shape i)
 
   pub bound-known : (i : ℕ) → schema (schemasOf d) i .bound ≡ boundAt shape i
   bound-known i = sym (ap (λ s. s .bound) (known .schemas i))
-
-  -- a table's number of columns
-  width-table : (i : ℕ) → i < length (d .tables) → width d i ≡ length (getD (d .tables) i noTable .columns)
-  width-table i h =
-      ap (λ s. length (s .ranges))
-      (stack-keeps viewSchema noSchema (d .views) (map tableSchema (d .tables)) i (rw (length-map (d .tables) tableSchema) h)
-      ∙ List·getD-map tableSchema (d .tables) i noTable)
-      ∙ length-map (getD (d .tables) i noTable .columns) _
 
   set-whole : (union : Bool) (i j : ℕ)
       → wholeFault d (Item.view (setView union i j)) ≡ setRules union (widthAt shape i) (widthAt shape j) (boundAt shape i) (boundAt shape j)
@@ -170,7 +158,7 @@ module _ {d : Draft} {shape : List ℕ} {ends : List ℤ} (known : Catalogued d 
         let n = getD frame 3 0 in
         let there = ltb-true p (length (d .tables)) (byte-passes frame 2 6 (under (length (d .tables))) six z) in
         pairing-exact frame n ps (λ i. parents-read (width d c) (width d p) frame i n 4 ps left e) 0 (getD (d .tables) p noTable .key)
-        ∙ ap₂ (pairing frame n 0) (fit .fits p there ∙ sym (width-table p there) ∙ width-known p) (sym (known .masks p there))
+        ∙ ap₂ (pairing frame n 0) (fit .fits p there ∙ sym (width-table d p there) ∙ width-known p) (sym (known .masks p there))
 
     pub key-law : KeysFit d → let c = getD frame 1 0 in let p = getD frame 2 0 in let n = getD frame 3 0 in
         bodyFault d (keyFrame d) frame

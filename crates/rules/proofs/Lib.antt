@@ -16,6 +16,8 @@ pub mod LegalAccepted
 pub mod LegalBytes
 pub mod TextLaws
 pub mod Examples
+-- relations as the arrays hold them
+pub mod CatalogLaws
 -- frames of fixed layout
 pub mod SizedLaws
 pub mod BodyLaws
@@ -24,7 +26,6 @@ pub mod FixedLaws
 pub mod FixedAnswers
 pub mod FitLaws
 -- the arrays
-pub mod CatalogLaws
 pub mod EntryLaws
 pub mod SetLaws
 pub mod TableLaws

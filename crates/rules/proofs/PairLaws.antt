@@ -1,24 +1,23 @@
 -- The pairs of a foreign key: what is read of them, and the parent's key against its mask. Assumes nothing.
-use mathlib.Core.Path.{_≡_, refl, sym, ap, ap₂, subst, _∙_}
-use mathlib.Core.Bool.{Bool, true, false, cond, _&&_}
+use mathlib.Core.Path.{_≡_, refl, sym, ap, ap₂, _∙_}
+use mathlib.Core.Bool.{Bool, true, false, cond}
 use mathlib.Core.List.{List, [], _∷_}
-use Prim.Native.Nat.{ℕ, zero, suc, _+_, _*_, _-_, _/_, _%_, _≤_, _<_}
+use Prim.Native.Nat.{ℕ, zero, suc, _+_, _-_, _/_, _%_, _≤_, _<_}
 use native.Mathlib.Numerals.{add-one}
 use native.Mathlib.Omega.{arith}
 use lib.Dec.{eqb}
 use lib.ListN.{length, getD, drop}
 use lib.Seq.{getD-drop, drop-drop}
-use borrow.Author.Tests.{eq-eqb, ne-eqb}
 use Rattle.value.specs.Bag.{tick, countIf}
 use Rattle.value.proofs.Decides.{by-test}
 use Rattle.meaning.specs.Syntax.{Pair}
-use Rattle.meaning.specs.Reading.{Read, Reader, done, refuse, _>>=_, byteIf, either}
+use Rattle.meaning.specs.Reading.{Read, done, refuse, _>>=_, byteIf, either}
 use Rattle.meaning.proofs.Readers.{then-ok}
 use Rattle.rules.specs.Frames.{times, pairField, exactlyKey}
 use Rattle.rules.specs.Written.{maskOf}
 use Rattle.rules.specs.Faults.{first, under}
 use Rattle.rules.specs.Layout.{parentCount, columnPairing, pairing}
-use Rattle.rules.proofs.FieldLaws.{Sized, first-none, first-some}
+use Rattle.rules.proofs.FieldLaws.{first-none, first-some}
 use Rattle.rules.proofs.SizedLaws.{sized-byteIf, sized-pair}
 
 -- ---- what is read
@@ -60,11 +59,11 @@ module _ (c p : ℕ) (frame : List ℕ) where
 
 -- ---- the parent's key
 
-bit-first : (k : Bool) (ks : List Bool) → maskOf (k ∷ ks) % 2 ≡ cond k 1 0
+pub bit-first : (k : Bool) (ks : List Bool) → maskOf (k ∷ ks) % 2 ≡ cond k 1 0
 bit-first true ks = omega arith
 bit-first false ks = omega arith
 
-bits-after : (k : Bool) (ks : List Bool) → maskOf (k ∷ ks) / 2 ≡ maskOf ks
+pub bits-after : (k : Bool) (ks : List Bool) → maskOf (k ∷ ks) / 2 ≡ maskOf ks
 bits-after true ks = omega arith
 bits-after false ks = omega arith
 

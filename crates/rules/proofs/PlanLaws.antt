@@ -7,7 +7,7 @@ use mathlib.Core.Path.{_≡_, refl, sym, ap, subst, _∙_}
 use mathlib.Core.Bool.{Bool, true, false, cond}
 use mathlib.Core.List.{List, [], _∷_, _++_, map, append-assoc, append-nil}
 use mathlib.Core.Option.{Option, none, some}
-use Prim.Native.Nat.{ℕ, zero, suc, _+_, _*_, _≤_, _<_, min}
+use Prim.Native.Nat.{ℕ, suc, _+_, _*_, _≤_, _<_, min}
 use native.Mathlib.Omega.{arith}
 use lib.Dec.{leb, ltb}
 use lib.IntN.{ℤ, pos}
@@ -22,10 +22,11 @@ use Rattle.text.specs.declared.Frames.{Frames}
 use Rattle.text.proofs.Laws.{only-such}
 use Rattle.text.proofs.Callers.{accepted, used-fits, used-length}
 use Rattle.meaning.specs.Syntax.{Table, ForeignKey, View, Goal, File}
-use Rattle.meaning.specs.Bounds.{Schema, schemas}
+use Rattle.meaning.specs.Bounds.{Schema}
 use Rattle.meaning.specs.Candidates.{candidates}
 use Rattle.value.proofs.Order.{≤-trans}
 use Rattle.value.proofs.Values.{all-map}
+use Rattle.value.proofs.Places.{getD-all}
 use Rattle.meaning.proofs.Readers.{Byte}
 use Rattle.bounds.specs.Catalog.{widthAt}
 use Rattle.rules.specs.Draft.{Draft, Item, empty, added, relationCount, stage}
@@ -276,14 +277,9 @@ module _ (text : List ℕ) (r : Frames) (fs : List (List ℕ)) (e : framesOf tex
 
 -- ---- in the code's words
 
-zeros : {A : Type 0} (x : A) (n k : ℕ) → getD (replicate n x) k x ≡ x
-zeros x zero k = refl
-zeros x (suc n) zero = refl
-zeros x (suc n) (suc k) = zeros x n k
-
 -- nothing is known before the first frame
 pub held-start : Held empty startState (replicate 64 0) (replicate 256 (pos 0))
-held-start = record { stands = stands-empty; catalogued = none-entered (replicate 64 0) (replicate 256 (pos 0)) refl refl (zeros 0 64); fits = fits-empty }
+held-start = record { stands = stands-empty; catalogued = none-entered (replicate 64 0) (replicate 256 (pos 0)) refl refl (λ k. getD-all 64 k 0); fits = fits-empty }
 
 module _ (text : List ℕ) (r : Frames) (dec : Decoded (framesOf text) r) where
   pub used-inside : r .number ≡ 0 → r .used ≤ length (r .bytes)

@@ -19,6 +19,7 @@ use Rattle.rules.specs.Catalogued.{Catalogued}
 use Rattle.rules.specs.Entries.{putShape, putRanges, hullAt, HullsPut, SetEntered, Outside}
 use Rattle.rules.proofs.CatalogLaws.{none, length-ranges, puts-outside, puts-ranges}
 use Rattle.rules.proofs.EntryLaws.{view-entered}
+use Rattle.rules.proofs.FixedLaws.{bound-known}
 
 -- ---- hulls
 
@@ -43,9 +44,6 @@ hull-self x = ap₂ (λ l h. record { lo = l; hi = h }) (min-self (x .lo)) (max-
 -- ---- what is stored
 
 module _ {d : Draft} {shape : List ℕ} {ends : List ℤ} (c : Catalogued d shape ends) where
-  bound-is : (i : ℕ) → schema (schemasOf d) i .bound ≡ boundAt shape i
-  bound-is i = ap (λ (s : Schema). s .bound) (sym (c .schemas i))
-
   ranges-are : (i : ℕ) → schema (schemasOf d) i .ranges ≡ rangesIn shape ends i
   ranges-are i = ap (λ (s : Schema). s .ranges) (sym (c .schemas i))
 
@@ -73,7 +71,7 @@ module _ (left right r width bound : ℕ) (shape : List ℕ) (ends : List ℤ) (
         let lw : length L ≡ widthAt shape left = length-ranges ends (16 * left) (widthAt shape left) in
         let rw′ : length R ≡ widthAt shape right = length-ranges ends (16 * right) (widthAt shape right) in
         let n : length (hulls L R) ≡ width = omega (arith, length-hulls L R) in
-        let bounds : schema (schemasOf d) left .bound + schema (schemasOf d) right .bound ≡ bound = omega (arith, bound-is c left, bound-is c right) in
+        let bounds : schema (schemasOf d) left .bound + schema (schemasOf d) right .bound ≡ bound = omega (arith, bound-known c left, bound-known c right) in
         let ranges : rangesFrom ends′ (16 * r) width ≡ hulls L R = put-ranges c left right r width ends′ e l k p z few (hulls L R) n
         (λ i h. sym (hulls-at L R i (omega arith) (omega arith))) in
         view-entered d (View.union left right) r 2 width bound 0 shape ends shape′ ends′ c e z few s (put-outside c left right r width ends′ e l k p few)
@@ -88,7 +86,7 @@ module _ (left right r width bound : ℕ) (shape : List ℕ) (ends : List ℤ) (
         let L = rangesIn shape ends left in
         let few : width ≤ 8 = omega (arith, c .widths left) in
         let n : length L ≡ width = length-ranges ends (16 * left) (widthAt shape left) ∙ sym w in
-        let bounds : min (schema (schemasOf d) left .bound) (schema (schemasOf d) right .bound) ≡ bound = omega (arith, bound-is c left, bound-is c right) in
+        let bounds : min (schema (schemasOf d) left .bound) (schema (schemasOf d) right .bound) ≡ bound = omega (arith, bound-known c left, bound-known c right) in
         let ranges : rangesFrom ends′ (16 * r) width ≡ L = put-ranges c left left r width ends′ e l l p z few L n (λ i h. hull-self (getD L i none)) in
         view-entered d (View.intersection left right) r 2 width bound 0 shape ends shape′ ends′ c e z few s (put-outside c left left r width ends′ e l l p few)
         (ap₂ (λ a rs. record { bound = a; ranges = rs }) bounds (ranges-are c left ∙ sym ranges));

@@ -7,7 +7,7 @@
 use mathlib.Core.Path.{_≡_, refl, sym, ap, _∙_}
 use mathlib.Core.Bool.{Bool}
 use mathlib.Core.List.{List, [], _∷_, map}
-use Prim.Native.Nat.{ℕ, zero, suc, _+_, _*_, _-_, _≤_, _<_}
+use Prim.Native.Nat.{ℕ, zero, suc, _+_, _-_, _≤_, _<_}
 use native.Mathlib.Omega.{arith}
 use lib.Dec.{ltb, leb}
 use lib.IntN.{ℤ}
@@ -16,18 +16,20 @@ use borrow.Author.Tests.{leb-true, leb-false}
 use Rattle.value.proofs.Decides.{by-test, and-parts}
 use Rattle.meaning.specs.Syntax.{Expr}
 use Rattle.meaning.specs.Reading.{Read, Reader, done, andThen, _>>=_, byteIf, place, readE, readC}
+use Rattle.meaning.proofs.Elements.{all-given, map-same}
 use Rattle.prefix.specs.Skipped.{skipOf, skipped}
 use Rattle.prefix.specs.declared.Skip.{Skip}
 use Rattle.prefix.specs.declared.Skip.the-variants.{Next, Refused}
 use Rattle.prefix.proofs.Ends.{Ends, Field, ends-done, ends-more, ends-bind, field-if, field-bind, fieldE, fieldC}
 use Rattle.prefix.proofs.Skips.{Landed, lands, field-lands, then-more, then-stop, next-is, level-done, level-bind, level-at}
-use Rattle.bounds.specs.Catalog.{widthAt, rangesFrom}
+use Rattle.bounds.specs.Catalog.{widthAt}
 use Rattle.rules.specs.Draft.{Draft, width}
 use Rattle.rules.specs.Frames.{times, ending, placeField}
 use Rattle.rules.specs.Faults.{faultOf, faultAt, first, under, within}
 use Rattle.rules.specs.Catalogued.{Catalogued}
 use Rattle.rules.specs.ViewFaults.{fromsUnder, selectEnd, conditionSelect, whereGroups, bytesAt}
 use Rattle.rules.proofs.FieldLaws.{first-none, first-some, byte-then, byte-wrong, byte-missing, end-any}
+use Rattle.rules.proofs.FixedLaws.{width-known}
 
 -- ---- the first of several faults
 
@@ -176,17 +178,8 @@ take-bytes f frame zero n at h = refl
 take-bytes f frame (suc k) zero at h = absurd (omega arith)
 take-bytes f frame (suc k) (suc n) at h = ap (λ l. f (getD frame at 0) ∷ l) (take-bytes f frame k n (at + 1) (omega arith))
 
-ranges-length : (ends : List ℤ) (n at : ℕ) → length (rangesFrom ends at n) ≡ n
-unfolding rangesFrom
-ranges-length ends zero at = refl
-ranges-length ends (suc n) at = ap suc (ranges-length ends n (at + 2))
-
 pub widths-are : {d : Draft} {shape : List ℕ} {ends : List ℤ} → Catalogued d shape ends → (fs : List ℕ) → map (width d) fs ≡ map (widthAt shape) fs
-widths-are c [] = refl
-widths-are {shape = shape} {ends = ends} c (i ∷ fs) =
-    let e = ranges-length ends (widthAt shape i) (16 * i) in
-    let w = ap (λ s. length (s .ranges)) (c .schemas i) in
-    rw (widths-are c fs) (ap (λ k. k ∷ map (widthAt shape) fs) (sym w ∙ e))
+widths-are {d} {shape} c fs = map-same (width d) (widthAt shape) (all-given (width-known c) fs)
 
 -- ---- what follows a part
 

@@ -1,6 +1,6 @@
 -- The fields of a view's frame, from what was read. Assumes nothing.
 use mathlib.Core.Path.{_≡_, refl, sym, ap, ap₂, subst, _∙_}
-use mathlib.Core.Bool.{Bool, true, false, _&&_, and-true}
+use mathlib.Core.Bool.{Bool, true, _&&_, and-true, and-assoc}
 use mathlib.Core.List.{List, [], _∷_, _++_, map}
 use Prim.Native.Nat.{ℕ, zero, suc, _+_, _-_, _*_, _≤_, _<_}
 use native.Mathlib.Omega.{arith}
@@ -11,6 +11,7 @@ use borrow.Author.Tests.{ltb-true, ltb-false, leb-true}
 use Rattle.value.specs.Bag.{All}
 use Rattle.value.proofs.Decides.{by-test, and-parts}
 use Rattle.value.proofs.Places.{from-byte}
+use Rattle.value.proofs.Values.{all-map}
 use Rattle.meaning.specs.Lists.{all}
 use Rattle.meaning.specs.Syntax.{Expr, Cond, Place, View}
 use Rattle.meaning.specs.Reading.{Read, Reader, done, andThen, _>>=_, byteIf, readE, readC}
@@ -22,25 +23,9 @@ use Rattle.rules.proofs.FieldLaws.{at-end}
 
 -- ---- lists
 
-pub and-assoc : (a b c : Bool) → ((a && b) && c) ≡ (a && (b && c))
-and-assoc true b c = refl
-and-assoc false b c = refl
-
-pub map-same : {A B : Type 0} (f g : A → B) → ((x : A) → f x ≡ g x) → (xs : List A) → map f xs ≡ map g xs
-map-same f g h [] = refl
-map-same f g h (x ∷ xs) = ap₂ _∷_ (h x) (map-same f g h xs)
-
-pub map-snoc : {A B : Type 0} (f : A → B) (xs : List A) (x : A) → map f (xs ++ (x ∷ [])) ≡ map f xs ++ (f x ∷ [])
-map-snoc f [] x = refl
-map-snoc f (y ∷ xs) x = ap (_∷_ (f y)) (map-snoc f xs x)
-
 pub all-snoc : {A : Type 0} (p : A → Bool) (xs : List A) (x : A) → all p (xs ++ (x ∷ [])) ≡ (all p xs && p x)
 all-snoc p [] x = and-true (p x)
 all-snoc p (y ∷ xs) x = ap (_&&_ (p y)) (all-snoc p xs x) ∙ sym (and-assoc (p y) (all p xs) (p x))
-
-pub all-map : {A : Type 0} {P Q : A → Type 0} → ((x : A) → P x → Q x) → (xs : List A) → All P xs → All Q xs
-all-map f [] All.nil = All.nil
-all-map f (x ∷ xs) (All.cons h t) = All.cons (f x h) (all-map f xs t)
 
 pub drop-as : (frame : List ℕ) (m n : ℕ) → m ≡ n → drop m frame ≡ drop n frame
 drop-as frame m n e = ap (λ k. drop k frame) e
@@ -128,7 +113,7 @@ from-read d frame fs rest e =
       few = omega arith;
       list = a ∙ ap₂ take i m;
       behind = b ∙ ap (drop n) m ∙ drop-drop n 2 frame ∙ drop-as frame (2 + n) (length fs + 2) (omega arith);
-      earlier = all-map (λ x t. ltb-true x (relationCount d) t) fs al;
+      earlier = all-map (λ x t. ltb-true x (relationCount d) t) al;
       long = omega arith;
     }
 

@@ -1,8 +1,8 @@
 -- The rules on a view's frame: what the loop over the select expressions has found, and from the answers of the walks the answer for the
 -- frame that its bytes are read as. Assumes nothing.
 use mathlib.Core.Path.{_≡_, refl, sym, ap, ap₂, subst, _∙_}
-use mathlib.Core.Bool.{Bool, true, false, _&&_, cond}
-use mathlib.Core.List.{List, [], _∷_, _++_, foldr, map}
+use mathlib.Core.Bool.{Bool, true, false, _&&_, cond, and-assoc}
+use mathlib.Core.List.{List, [], _∷_, _++_, foldr, map, map-append}
 use Prim.Native.Nat.{ℕ, _+_, _-_, _*_, _%_, _≤_, _<_}
 use native.Mathlib.Nat.{mul-assoc}
 use native.Mathlib.Numerals.{add-one}
@@ -14,6 +14,7 @@ use lib.Seq.{length-take-le}
 use borrow.Author.Tests.{leb-true}
 use Rattle.value.specs.Bag.{All}
 use Rattle.value.proofs.Decides.{by-test, and-parts}
+use Rattle.value.proofs.Values.{all-map}
 use Rattle.range.specs.declared.Range.{Range}
 use Rattle.range.specs.declared.Ranged.{Ranged}
 use Rattle.range.specs.declared.Ranged.the-variants.{Within, Beyond}
@@ -21,6 +22,7 @@ use Rattle.meaning.specs.Lists.{all}
 use Rattle.meaning.specs.Syntax.{Expr, Cond, Place, View}
 use Rattle.meaning.specs.Reading.{Read, Reader, andThen, readE, readC}
 use Rattle.meaning.specs.Bounds.{Schema, schema, viewSchema, itemRanges, productBound, range, withinE, withinC, allowedE, allowedC, anyColumn, groupingColumn}
+use Rattle.meaning.proofs.Elements.{all-given, map-same}
 use Rattle.meaning.proofs.Readers.{then-ok}
 use Rattle.bounds.specs.Catalog.{widthAt, boundAt, rangesFrom, rangesIn, itemsIn}
 use Rattle.bounds.specs.Walk.{placesFrom, columnsOf, widthsIn, rangedE, isWithin, SizesE, TestsC}
@@ -34,9 +36,11 @@ use Rattle.rules.specs.Catalogued.{Catalogued}
 use Rattle.rules.specs.Entries.{putRange, putShape, Outside}
 use Rattle.rules.specs.ViewRules.{factorAt, productOf, Product, putRanged, viewFault, Room, Selects, Answer, Tail, Rules}
 use Rattle.rules.specs.declared.view_rules.Ruled.{Ruled}
-use Rattle.rules.proofs.CatalogLaws.{length-ranges, put-length, put-next, put-outside, outside-same, outside-more, outside-ranges}
+use Rattle.rules.proofs.CatalogLaws.{put-length, put-next, put-outside, outside-same, outside-more, outside-ranges}
 use Rattle.rules.proofs.EntryLaws.{view-entered}
-use Rattle.rules.proofs.ViewFields.{fieldAt, and-assoc, map-same, map-snoc, all-snoc, all-map, drop-as, part-is, times-snoc, byte-read, from-read, places-read, view-read, GroupedRead, grouped-read}
+use Rattle.rules.proofs.FixedLaws.{bound-known}
+use Rattle.rules.proofs.ViewByteLaws.{widths-are}
+use Rattle.rules.proofs.ViewFields.{fieldAt, all-snoc, drop-as, part-is, times-snoc, byte-read, from-read, places-read, view-read, GroupedRead, grouped-read}
 
 -- ---- the answer for a frame whose from list is `items`
 
@@ -143,7 +147,7 @@ module _ (frame : List ℕ) (start : ℕ) (items shape : List ℕ) (ends : List 
                 let put : now′ ≡ putRange now r c (range I R x) = q ∙ ap (putRanged now r c) rg′ ∙ ranged-put now r c I R x (sym fit ∙ t₁) in
                 let long : 16 * r + 2 * c + 1 < length now = omega (arith, room .place, room .size, o .size) in
                 ap (λ m. rangesFrom m (16 * r) (c + 1)) put ∙ put-next now r c (range I R x) long
-                ∙ ap (λ rs. rs ++ (range I R x ∷ [])) (ranges t₀) ∙ sym (map-snoc (range I R) es₀ x) ∙ ap (map (range I R)) (sym w),
+                ∙ ap (λ rs. rs ++ (range I R x ∷ [])) (ranges t₀) ∙ sym (map-append (range I R) es₀ (x ∷ [])) ∙ ap (map (range I R)) (sym w),
           );
     };
     next = λ es rest h.
@@ -255,20 +259,16 @@ record Ruling (d : Draft) (r : ℕ) (shape : List ℕ) (ends′ : List ℤ) (a :
 
 module _ (d : Draft) {shape : List ℕ} {ends : List ℤ} (c : Catalogued d shape ends) where
   ranges-are : (fs : List ℕ) → itemRanges (schemasOf d) fs ≡ itemsIn shape ends fs
-  ranges-are fs = map-same (λ i. schema (schemasOf d) i .ranges) (rangesIn shape ends) (λ i. ap (λ (s : Schema). s .ranges) (sym (c .schemas i))) fs
+  ranges-are fs = map-same (λ i. schema (schemasOf d) i .ranges) (rangesIn shape ends) (all-given (λ i. ap (λ (s : Schema). s .ranges) (sym (c .schemas i))) fs)
 
   product-is : (fs : List ℕ) → productBound (schemasOf d) fs ≡ productOf shape fs
   unfolding productOf
   product-is fs =
-      ap (foldr _*_ 1) (map-same (λ i. schema (schemasOf d) i .bound) (boundAt shape) (λ i. ap (λ (s : Schema). s .bound) (sym (c .schemas i))) fs)
-
-  widths-are : (fs : List ℕ) → map (width d) fs ≡ widthsIn shape fs
-  widths-are fs = map-same (width d) (widthAt shape)
-      (λ i. ap (λ (s : Schema). length (s .ranges)) (sym (c .schemas i)) ∙ length-ranges ends (16 * i) (widthAt shape i)) fs
+      ap (foldr _*_ 1) (map-same (λ i. schema (schemasOf d) i .bound) (boundAt shape) (all-given (bound-known c) fs))
 
   module _ (r : ℕ) (e : r ≡ relationCount d) (l : r < 16) where
     room-for : (fs : List ℕ) → All (λ i. i < relationCount d) fs → Room shape ends fs r
-    room-for fs h = record { place = l; size = c .ends-size; widths = c .widths; earlier = all-map (λ x k. omega arith) fs h }
+    room-for fs h = record { place = l; size = c .ends-size; widths = c .widths; earlier = all-map (λ x k. omega arith) h }
 
     answer-rules : (ends′ : List ℤ) (a : Ruled) (q : View) (A W : Bool) (es : List Expr) (I : List (List Range)) (R : ℕ)
         → wholeFault d (Item.view q) ≡ viewFault A R W → viewSchema (schemasOf d) q ≡ record { bound = R; ranges = map (range I R) es }
@@ -295,9 +295,9 @@ module _ (d : Draft) {shape : List ℕ} {ends : List ℤ} (c : Catalogued d shap
           let same : View.basic fs w es ≡ q = view-read (View.basic fs w es) q m₄ [] q₄ in
           let B′ = subst (λ k. BasicOf frame k shape ends r ends′ a) (list ∙ sym (F .list)) B in
           let start : m₂ ≡ drop (length fs + 3) frame = j ∙ drop-as frame (length fs + 2 + 1) (length fs + 3) (omega arith) in
-          let readW : readC (widthsIn shape fs) (drop (length fs + 3) frame) ≡ Read.ok w m₃ = ap₂ readC (sym (widths-are fs)) (sym start) ∙ p₃ in
+          let readW : readC (widthsIn shape fs) (drop (length fs + 3) frame) ≡ Read.ok w m₃ = ap₂ readC (sym (widths-are c fs)) (sym start) ∙ p₃ in
           let readS : times (fieldAt frame fs 2) (readE (widthsIn shape fs)) m₃ ≡ Read.ok es m₄ =
-          ap₂ (λ k cols. times k (readE cols) m₃) (sym i) (sym (widths-are fs)) ∙ p₄ in
+          ap₂ (λ k cols. times k (readE cols) m₃) (sym i) (sym (widths-are c fs)) ∙ p₄ in
           let few : fieldAt frame fs 2 ≤ 8 = rw (← i) (leb-true n 8 (and-parts (leb 1 n) (leb n 8) t .1)) in
           let A = allowedC anyColumn false w && all (allowedE anyColumn false) es in
           subst (Ruling d r shape ends′ a) same
@@ -313,7 +313,7 @@ module _ (d : Draft) {shape : List ℕ} {ends : List ℤ} (c : Catalogued d shap
           let T = G .trees in
           let A = allowedC anyColumn false (T .w) && (allowedC (groupingColumn (T .gs)) true (T .h) && all (allowedE (groupingColumn (T .gs)) true) (T .es)) in
           let B′ = subst (λ k. GroupedOf frame k shape ends r ends′ a) (list ∙ sym (G .from .list)) B in
-          let W = sym (widths-are fs) in
+          let W = sym (widths-are c fs) in
           subst (Ruling d r shape ends′ a) (T .same)
           (answer-rules ends′ a (View.grouped fs (T .w) (T .gs) (T .h) (T .es)) _ _ (T .es) (itemsIn shape ends fs) (productOf shape fs)
           (ap₂ (λ R I. cond A (cond (leb R 64) (cond (withinC I R (T .w) && (withinC I R (T .h) && all (withinE I R) (T .es))) 0 9) 8) 7)

@@ -13,8 +13,8 @@ use borrow.Author.Tests.{ltb-true, lt-ltb}
 use Rattle.value.specs.Value.{Value, stored}
 use Rattle.value.proofs.Values.{number-stored}
 use Rattle.value.proofs.Decides.{by-test, and-parts}
+use Rattle.value.proofs.Places.{getD-all}
 use Rattle.meaning.specs.Evaluation.{missing}
-use Rattle.store.proofs.Listed.{getD-all}
 use Rattle.store.specs.Layout.{inside, position, cellIn, putCell, relationLimit, rowLimit, columnLimit, stretch, area}
 
 pub inside-limits : (r i c : ℕ) → inside r i c ≡ true → (r < relationLimit) × (i < rowLimit) × (c < columnLimit)

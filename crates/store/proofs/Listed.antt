@@ -6,7 +6,7 @@ use Prim.Native.Nat.{ℕ, zero, suc, _<_}
 use native.Mathlib.Nat.{eq-or-lt-of-le, le-of-suc-le-suc}
 use native.Mathlib.Omega.{arith}
 use lib.Dec.{eqb}
-use lib.ListN.{length, getD, set, replicate, length-append, length-set, List·getD-append}
+use lib.ListN.{length, getD, set, length-append, length-set, List·getD-append}
 use lib.Seq.{getD-at, getD-set-same, getD-set-other, ext-getD, set-at}
 use borrow.Author.Tests.{eqb-true, eqb-false}
 use Rattle.value.proofs.Decides.{by-test}
@@ -52,18 +52,7 @@ module _ {A : Type 0} where
       (λ t. let q : k ≡ c = eqb-true k c t in rw q (e ∙ sym (getD-set-same (listed f n) c v v (omega (arith, length-listed f n)))))
       (λ t. h k (eqb-false k c t) ∙ sym (getD-set-other (listed f n) c k v v (eqb-false k c t) ∙ getD-listed f n k v m)))
 
-  -- the same element throughout
-  pub getD-all : (n k : ℕ) (a : A) → getD (replicate n a) k a ≡ a
-  getD-all zero k a = refl
-  getD-all (suc n) zero a = refl
-  getD-all (suc n) (suc k) a = getD-all n k a
-
 module _ {A B : Type 0} (f : A → B) where
-  pub getD-map : (l : List A) (k : ℕ) (d : A) (e : B) → k < length l → getD (map f l) k e ≡ f (getD l k d)
-  getD-map [] k d e h = absurd (omega arith)
-  getD-map (x ∷ l) zero d e h = refl
-  getD-map (x ∷ l) (suc k) d e h = getD-map l k d e (le-of-suc-le-suc h)
-
   pub map-set : (l : List A) (k : ℕ) (a : A) → map f (set l k a) ≡ set (map f l) k (f a)
   map-set [] k a = refl
   map-set (x ∷ l) zero a = refl

@@ -18,12 +18,14 @@ use Rattle.value.specs.Value.{Value}
 use Rattle.value.specs.Machine.{valueOf}
 use Rattle.value.specs.declared.datum.Datum.{Datum}
 use Rattle.value.proofs.Decides.{by-test, and-parts}
+use Rattle.value.proofs.Places.{getD-all}
 use Rattle.meaning.specs.Syntax.{Row}
 use Rattle.meaning.specs.Evaluation.{missing}
+use Rattle.meaning.proofs.ListSteps.{map-at}
 use Rattle.store.specs.Layout.{cellIn, putCell, relationLimit, rowLimit, columnLimit, stretch, area}
 use Rattle.store.specs.Rows.{listed, rowIn, rowsIn, putCells, room, putRow, rowOf, withValue}
 use Rattle.store.specs.declared.Row.{Row as Values}
-use Rattle.store.proofs.Listed.{listed-same, length-listed, getD-listed, listed-getD, set-last, set-listed, getD-all, getD-map, map-set}
+use Rattle.store.proofs.Listed.{listed-same, length-listed, getD-listed, listed-getD, set-last, set-listed, map-set}
 use Rattle.store.proofs.CellLaws.{put-cell-there, put-cell-other, put-cell-length, put-cell-part, put-cell-before, cell-of-zeros}
 
 -- ---- reading
@@ -199,7 +201,7 @@ row-of-all n row w e = rw e (listed-same (λ k. getD (replicate n missing) k mis
 -- value c of a row
 value-of-row : (row : Values) (w c : ℕ) (d : Datum) → c < w → c < length (row .values) → getD (rowOf row w) c missing ≡ valueOf (getD (row .values) c d)
 unfolding rowOf
-value-of-row row w c d h l = getD-listed (λ k. getD (map valueOf (row .values)) k missing) w c missing h ∙ getD-map valueOf (row .values) c d missing l
+value-of-row row w c d h l = getD-listed (λ k. getD (map valueOf (row .values)) k missing) w c missing h ∙ map-at valueOf (row .values) c d missing l
 
 -- a turn of the loop that puts a row's cells
 pub put-next : (work before after : List ℤ) (i w c : ℕ) (row : Values) (d : Datum) → c < w → c < length (row .values)

@@ -35,6 +35,15 @@ and-parts true true e = (refl, refl)
 and-parts true false e = absurd (true≢false (sym e))
 and-parts false b e = absurd (true≢false (sym e))
 
+pub and-both : {a b : Bool} → a ≡ true → b ≡ true → (a && b) ≡ true
+and-both p q = rw (p, q)
+
+pub and-cross : (a b c d : Bool) → ((a && b) && (c && d)) ≡ ((a && c) && (b && d))
+and-cross true true c d = refl
+and-cross true false true d = refl
+and-cross true false false d = refl
+and-cross false b c d = refl
+
 -- the test b decides P. A record, so that b and P can be inferred from a hypothesis
 pub record Decides (b : Bool) (P : Type 0) : Type 0 where
   pub sound : T b → P

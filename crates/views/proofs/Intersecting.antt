@@ -1,6 +1,6 @@
 -- Rows compared, counted and kept. Assumes nothing.
 use mathlib.Core.Path.{_≡_, refl, sym, ap, ap₂, _∙_}
-use mathlib.Core.Bool.{Bool, true, false, _&&_, not, cond}
+use mathlib.Core.Bool.{Bool, true, false, _&&_, cond, and-false}
 use mathlib.Core.List.{List, [], _∷_, _++_, append-nil}
 use Prim.Native.Nat.{ℕ, zero, suc, _+_, _≤_, _<_}
 use native.Mathlib.Omega.{arith}
@@ -25,10 +25,6 @@ use Rattle.views.specs.Copies.{Fits, Appended, Shared}
 use Rattle.views.proofs.Copying.{apart-same, apart-more, apart-put, row-kept}
 
 -- ---- rows that are the same
-
-and-false : (t : Bool) → (t && false) ≡ false
-and-false true = refl
-and-false false = refl
 
 each-snoc : {A : Type 0} (same : A → A → Bool) (f g : ℕ → A) (n : ℕ)
     → each same (listed f (suc n)) (listed g (suc n)) ≡ (each same (listed f n) (listed g n) && same (f n) (g n))
