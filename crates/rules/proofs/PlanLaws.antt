@@ -147,6 +147,23 @@ pub plan-refused : (text : List ℕ) (r : Frames) (p : Plan) → framesOf text �
 unfolding fileOf
 plan-refused text r p e nz a b = rw e (a, b, nz)
 
+-- the plan of n candidates from the frames and where the walk over them ended
+abbrev pub planFrom : Frames → Walked → List ℕ → List ℕ → ℕ → Plan
+planFrom r w shape starts n = record {
+  number = 0;
+  line = 0;
+  bytes = r .bytes;
+  used = r .used;
+  starts = starts;
+  shape = shape;
+  tables = w .state .tables;
+  keys = w .state .keys;
+  relations = w .state .relations;
+  goal = w .state .goal;
+  negative = w .state .negative;
+  candidates = n;
+}
+
 module _ (text : List ℕ) (r : Frames) (fs : List (List ℕ)) (e : framesOf text ≡ Lines.frames fs) (h : Holds fs r) (w : Walked) (shape : List ℕ) (ends : List ℤ)
     (t : WalkedTo (reach fs empty 1) w shape ends) where
   outcome : fileOf text ≡ concluded (reach fs empty 1)
@@ -233,20 +250,7 @@ module _ (text : List ℕ) (r : Frames) (fs : List (List ℕ)) (e : framesOf tex
         rw o (a, b, λ x. omega arith)
 
     pub plan-done : (n : ℕ) (starts : List ℕ) → Starts (take (r .used) (r .bytes)) (w .state .tables) (w .state .keys) 16 starts → w .state .stage ≡ 5 → Counted (take (r .used) (r .bytes)) (w .state .tables) n → (n ≡ tooMany → ⊥)
-        → Plans (fileOf text) (record {
-          number = 0;
-          line = 0;
-          bytes = r .bytes;
-          used = r .used;
-          starts = starts;
-          shape = shape;
-          tables = w .state .tables;
-          keys = w .state .keys;
-          relations = w .state .relations;
-          goal = w .state .goal;
-          negative = w .state .negative;
-          candidates = n;
-        })
+        → Plans (fileOf text) (planFrom r w shape starts n)
     plan-done n starts begin five c small =
         let k = ready n five c in
         let d = k .draft-is in
@@ -309,19 +313,6 @@ module _ (text : List ℕ) (r : Frames) (dec : Decoded (framesOf text) r) where
           let (fs, e, h) = accepted text r dec z in plan-too-large text r fs e h w shape ends (walked-to fs h) y n p five c big (a .0) (a .1)
 
       pub way-done : (n : ℕ) (starts : List ℕ) → Starts (take (r .used) (r .bytes)) (w .state .tables) (w .state .keys) 16 starts → w .state .stage ≡ 5 → Counted (take (r .used) (r .bytes)) (w .state .tables) n → (n ≡ tooMany → ⊥)
-          → Plans (fileOf text) (record {
-            number = 0;
-            line = 0;
-            bytes = r .bytes;
-            used = r .used;
-            starts = starts;
-            shape = shape;
-            tables = w .state .tables;
-            keys = w .state .keys;
-            relations = w .state .relations;
-            goal = w .state .goal;
-            negative = w .state .negative;
-            candidates = n;
-          })
+          → Plans (fileOf text) (planFrom r w shape starts n)
       way-done n starts begin five c small =
           let (fs, e, h) = accepted text r dec z in plan-done text r fs e h w shape ends (walked-to fs h) y n starts begin five c small
