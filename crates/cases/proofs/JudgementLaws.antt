@@ -8,7 +8,9 @@ use lib.Dec.{ltb, eqb}
 use lib.IntN.{ℤ}
 use lib.ListN.{length, getD, set, length-set}
 use lib.Seq.{getD-set-same, getD-set-other}
+use Rattle.value.specs.Bag.{tick}
 use Rattle.value.proofs.Decides.{by-test}
+use Rattle.value.proofs.Bags.{tick-one}
 use Rattle.meaning.specs.Lists.{isPos, any}
 use Rattle.meaning.specs.Syntax.{Table, File, Database}
 use Rattle.meaning.specs.Lists.{Each}
@@ -42,13 +44,13 @@ module _ {bytes : List ℕ} {at : ℕ} {asked counts refuted : List ℕ} {work :
     noted = λ f l. absurd (h (e ∙ f .on));
   }
 
-  pub sign-noted : {r : Bool} {work′ : List ℤ} {refuted′ : List ℕ} {b : ℕ} → Refutes bytes at counts refuted work v r work′ → b ≡ cond r 1 0 → refuted′ ≡ set refuted v b
+  pub sign-noted : {r : Bool} {work′ : List ℤ} {refuted′ : List ℕ} {b : ℕ} → Refutes bytes at counts refuted work v r work′ → b ≡ tick r 0 → refuted′ ≡ set refuted v b
       → SignNoted bytes at asked counts refuted work v refuted′ work′
   sign-noted {r} {b = b} R q e = record {
     apart = R .apart;
     size = rw e (length-set refuted v b);
     others = λ i n. rw e (getD-set-other refuted v i b 0 n);
-    noted = λ f l. (r, R, rw e (getD-set-same refuted v b 0 l) ∙ q);
+    noted = λ f l. (r, R, rw e (getD-set-same refuted v b 0 l) ∙ q ∙ tick-one r);
   }
 
 module _ {bytes : List ℕ} {at : ℕ} {shape needed counts : List ℕ} {work : List ℤ} {v : ℕ} where

@@ -3,19 +3,12 @@ use super::needs;
 use super::outline::Outline;
 use super::relation;
 use super::validity;
+use value::boolean;
 ghost use mathlib.Core.Path.{_≡_};
-ghost use mathlib.Core.Bool.{cond};
 ghost use Prim.Native.Nat.{_≤_};
 ghost use lib.ListN.{set};
 ghost use Rattle.cases.specs.Relations.{frameLimit};
 ghost use Rattle.cases.specs.Judgement.{SignNoted, RowsNoted, Evaluates, Verdict, Judges};
-
-// 1 for true, 0 for false.
-fn one_if(b: bool) -> u8
-    ensures { λ r. ⌜ r ≡ cond b 1 0 ⌝ }
-{
-    if b { 1 } else { 0 }
-}
 
 // Whether view v is negative, if it is asked.
 fn note_sign(
@@ -34,7 +27,7 @@ fn note_sign(
         return;
     }
     let sign = relation::is_refuted(bytes, at, counts, refuted, work, v);
-    slice::put_byte(refuted, v as usize, one_if(sign));
+    slice::put_byte(refuted, v as usize, boolean::one_if(sign));
 }
 
 // The rows of view v, if they are needed, and their number.

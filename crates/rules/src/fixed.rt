@@ -1,14 +1,13 @@
 // The faults of the frames of fixed layout: tables, foreign keys, set views and the goal.
 ghost use mathlib.Core.Path.{_≡_};
-ghost use Prim.Native.Nat.{_*_, _+_, _^_, _<_, _≤_, min};
-ghost use lib.Dec.{eqb};
+ghost use Prim.Native.Nat.{_*_, _+_, _^_, _<_, min};
 ghost use lib.ListN.{getD};
-ghost use Rattle.value.specs.Bag.{tick};
 ghost use Rattle.value.specs.Integer.{bytesZ};
 ghost use Rattle.rules.specs.Frames.{columnField, pairField};
 ghost use Rattle.rules.specs.Faults.{faultAt};
 ghost use Rattle.rules.specs.Layout.{columnsFault, pairsFault, parentCount, columnPairing, pairing, setBound, setRules, TableFault, KeyFault, SetFault, GoalFault};
 use super::fields;
+use value::boolean;
 use value::integer;
 
 // ---- what is known of a relation
@@ -129,13 +128,6 @@ fn pairs_fault(frame: &[u8], c: u8, p: u8, n: u8) -> u8
     0
 }
 
-// 1 if two numbers are the same, else 0.
-fn one_if_same(a: u8, b: u8) -> u8
-    ensures { λ r. ⌜ (r ≡ tick (eqb a b) 0) × (r ≤ 1) ⌝ }
-{
-    if a == b { 1 } else { 0 }
-}
-
 // How often column i is the parent column of n pairs.
 fn parents_of(frame: &[u8], i: u8, n: u8) -> u8
     ensures { λ r. ⌜ r ≡ parentCount (now (frame .entry)) i 4 n ⌝ }
@@ -144,7 +136,7 @@ fn parents_of(frame: &[u8], i: u8, n: u8) -> u8
     let mut at = 4;
     let mut left = n;
     while 0 < left {
-        let one = one_if_same(slice::byte_at(frame, at + 1), i);
+        let one = boolean::one_if(slice::byte_at(frame, at + 1) == i);
         count = count + one;
         at = at + 2;
         left = left - 1;

@@ -13,6 +13,11 @@ tick-comm true false n = refl
 tick-comm false true n = refl
 tick-comm false false n = refl
 
+-- one more than nothing
+pub tick-one : (b : Bool) → tick b 0 ≡ cond b 1 0
+tick-one true = refl
+tick-one false = refl
+
 tick-inj : (b : Bool) {m n : ℕ} → tick b m ≡ tick b n → m ≡ n
 tick-inj true e = omega arith
 tick-inj false e = e

@@ -1,5 +1,7 @@
 // What a condition answers.
 ghost use mathlib.Core.Path.{_≡_};
+ghost use Prim.Native.Nat.{_≤_};
+ghost use Rattle.value.specs.Bag.{tick};
 ghost use Rattle.value.specs.Value.{connectiveAt, sure as sureT, negate, connect, holds as holdsT};
 ghost use Rattle.value.specs.Machine.{truthOf};
 
@@ -53,4 +55,12 @@ impl Boolean {
             Boolean::False => false,
         }
     }
+}
+
+// 1 for true, 0 for false: what a test adds to a count.
+// Refused: 1 for false; 0 for true.
+pub fn one_if(b: bool) -> u8
+    ensures { λ r. ⌜ (r ≡ tick b 0) × (r ≤ 1) ⌝ }
+{
+    if b { 1 } else { 0 }
 }

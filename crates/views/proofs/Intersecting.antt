@@ -70,12 +70,6 @@ module _ (work : List ℤ) (a i b j : ℕ) where
 
 -- ---- how often
 
-pub one-yes : {t : Bool} → t ≡ true → (1 ≡ tick t 0) × (1 ≤ 1)
-one-yes e = (rw e, omega arith)
-
-pub one-no : {t : Bool} → t ≡ false → (0 ≡ tick t 0) × (0 ≤ 1)
-one-no e = (rw e, omega arith)
-
 pub count-whole : (work : List ℤ) (b w n j : ℕ) (r : Row) {k : ℕ} → j ≤ n → n ≤ j → k ≡ count rowTest r (rowsIn work b w j) → k ≡ count rowTest r (rowsIn work b w n)
 count-whole work b w n j r h g e = let q : j ≡ n = omega arith in e ∙ ap (λ x. count rowTest r (rowsIn work b w x)) q
 

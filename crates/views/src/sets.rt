@@ -1,9 +1,10 @@
 // The rows of set views.
 use store;
 use store::Row;
+use value::boolean;
 ghost use mathlib.Core.Path.{_≡_};
 ghost use Prim.Native.Nat.{_≤_, _<_};
-ghost use Rattle.value.specs.Bag.{tick, count};
+ghost use Rattle.value.specs.Bag.{count};
 ghost use Rattle.meaning.specs.Evaluation.{rowTest};
 ghost use Rattle.store.specs.Layout.{columnLimit};
 ghost use Rattle.store.specs.Rows.{rowIn, rowsIn, rowOf};
@@ -61,17 +62,6 @@ fn same_rows(work: &[i32], a: u8, i: u8, b: u8, j: u8, width: u8) -> bool
     true
 }
 
-// 1 for a row that is the same, else 0.
-fn one_if_same(work: &[i32], a: u8, i: u8, b: u8, j: u8, width: u8) -> u8
-    ensures { λ k. ⌜ (k ≡ tick (rowTest .same (rowIn (now (work .entry)) a width i) (rowIn (now (work .entry)) b width j)) 0) × (k ≤ 1) ⌝ }
-{
-    if same_rows(work, a, i, b, j, width) {
-        1
-    } else {
-        0
-    }
-}
-
 // How often a row is among the first n rows of a relation.
 fn count_of(work: &[i32], a: u8, i: u8, b: u8, n: u8, width: u8) -> u8
     ensures { λ k. ⌜ k ≡ count rowTest (rowIn (now (work .entry)) a width i) (rowsIn (now (work .entry)) b width n) ⌝ }
@@ -79,7 +69,7 @@ fn count_of(work: &[i32], a: u8, i: u8, b: u8, n: u8, width: u8) -> u8
     let mut k: u8 = 0;
     let mut j: u8 = 0;
     while j < n {
-        let one = one_if_same(work, a, i, b, j, width);
+        let one = boolean::one_if(same_rows(work, a, i, b, j, width));
         k = k + one;
         j += 1;
     }

@@ -26,7 +26,7 @@ same-length-2 : tie.Need-same-length-2
 same-length-2 c = search needs
 
 returns-2 : tie.Need-returns-2
-returns-2 c = sign-noted (c .before .before .before .before .before .before .is-refuted .ensures) (c .before .before .before .one-if .ensures) (c .before .before .put-byte .ensures)
+returns-2 c = sign-noted (c .before .before .before .before .before .before .is-refuted .ensures) (c .before .before .before .one-if .ensures .0) (c .before .before .put-byte .ensures)
 
 pub note-sign-spec : {M : Type 1} → statement M
 note-sign-spec =

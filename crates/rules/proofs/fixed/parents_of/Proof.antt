@@ -7,10 +7,6 @@ use Rattle.rules.specs.Layout.{parentCount}
 use Rattle.rules.proofs.PairLaws.{parents-more, parents-end}
 use Rattle.rules.proofs.fixed.parents_of.Statement.{statement}
 use Rattle.rules.proofs.fixed.parents_of.Tie as tie
-use Rattle.rules.proofs.fixed.parents_of.Reads as reads
-use Rattle.rules.proofs.fixed.parents_of.Lts as lts
-use Rattle.slice.proofs.byte_at.Reads as byte-at-reads
-use Rattle.rules.proofs.fixed.one_if_same.Reads as one-if-same-reads
 
 abbrev Inv-loop : tie.InvT-loop
 Inv-loop frame i n count₀ at₀ left₀ count at left = (count + parentCount frame i at left ≡ parentCount frame i 4 n) × (at + 2 * left ≡ 4 + 2 * n) × (count + left ≤ n)
@@ -31,8 +27,8 @@ byte-at-requires : tie.Need-byte-at-requires Inv-loop μ-loop
 byte-at-requires c κs = omega arith
 
 -- src/fixed.rt:141:13
-one-if-same-requires : tie.Need-one-if-same-requires Inv-loop μ-loop
-one-if-same-requires c κs = omega arith
+one-if-requires : tie.Need-one-if-requires Inv-loop μ-loop
+one-if-requires c κs = omega arith
 
 -- src/fixed.rt:142:17
 add-count : tie.Need-add-count Inv-loop μ-loop
@@ -52,7 +48,7 @@ loop-less c = omega arith
 
 -- src/fixed.rt:140:5
 loop-again : tie.Need-loop-again Inv-loop μ-loop
-loop-again c = (parents-more (c .before .before .before .before .before .args .frame .now) (c .before .before .before .before .before .args .i) (c .before .before .before .loop .at) (c .before .before .before .loop .left) _ _ _ (c .before .before .loop-test .taken) (c .one-if-same .ensures .0 ∙ ap (λ b. tick (eqb b (c .before .before .before .before .before .args .i)) 0) (c .before .byte-at .ensures)) (c .before .before .before .loop .inv .0), omega arith, omega arith)
+loop-again c = (parents-more (c .before .before .before .before .before .args .frame .now) (c .before .before .before .before .before .args .i) (c .before .before .before .loop .at) (c .before .before .before .loop .left) _ _ _ (c .before .before .loop-test .taken) (c .one-if .ensures .0 ∙ ap (λ b. tick (eqb b (c .before .before .before .before .before .args .i)) 0) (c .before .byte-at .ensures)) (c .before .before .before .loop .inv .0), omega arith, omega arith)
 
 -- src/fixed.rt:134:1
 returns : tie.Need-returns Inv-loop μ-loop
@@ -67,7 +63,7 @@ parents-of-spec =
     loop-holds
     add-byte-at
     byte-at-requires
-    one-if-same-requires
+    one-if-requires
     add-count
     add-at
     sub-left

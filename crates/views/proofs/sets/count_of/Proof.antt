@@ -1,9 +1,9 @@
 -- `views::sets::count_of` meets its contract. Assumes nothing.
-use mathlib.Core.Path.{_≡_}
+use mathlib.Core.Path.{_≡_, ap, _∙_}
 use Prim.Native.Nat.{_-_, _≤_}
 use native.Mathlib.Omega.{arith}
 use borrow.Author.Needs.{needs}
-use Rattle.value.specs.Bag.{count}
+use Rattle.value.specs.Bag.{tick, count}
 use Rattle.meaning.specs.Evaluation.{rowTest}
 use Rattle.store.specs.Rows.{rowIn, rowsIn}
 use Rattle.views.proofs.Intersecting.{count-none, count-more, count-whole}
@@ -19,11 +19,14 @@ abbrev μ-loop : tie.MeasureT-loop
 loop-holds : tie.Need-loop-holds Inv-loop μ-loop
 loop-holds c = (omega arith, omega arith, count-none (c .args .work .now) (c .args .b) (c .args .width) (rowIn (c .args .work .now) (c .args .a) (c .args .width) (c .args .i)))
 
-one-if-same-requires : tie.Need-one-if-same-requires Inv-loop μ-loop
-one-if-same-requires c κs = search needs
+same-rows-requires : tie.Need-same-rows-requires Inv-loop μ-loop
+same-rows-requires c κs = search needs
+
+one-if-requires : tie.Need-one-if-requires Inv-loop μ-loop
+one-if-requires c κs = search needs
 
 add-k : tie.Need-add-k Inv-loop μ-loop
-add-k c = omega (arith, c .before .before .loop .inv .1, c .one-if-same .ensures .1)
+add-k c = omega (arith, c .before .before .before .loop .inv .1, c .one-if .ensures .1)
 
 add-j : tie.Need-add-j Inv-loop μ-loop
 add-j c = search needs
@@ -32,7 +35,7 @@ loop-less : tie.Need-loop-less Inv-loop μ-loop
 loop-less c = omega arith
 
 loop-again : tie.Need-loop-again Inv-loop μ-loop
-loop-again c = (omega arith, omega (arith, c .before .before .loop .inv .1, c .one-if-same .ensures .1), count-more (c .before .before .before .args .work .now) (c .before .before .before .args .b) (c .before .before .before .args .width) (c .before .before .loop .j) _ _ (rowIn (c .before .before .before .args .work .now) (c .before .before .before .args .a) (c .before .before .before .args .width) (c .before .before .before .args .i)) (c .before .before .loop .inv .2) (c .one-if-same .ensures .0))
+loop-again c = (omega arith, omega (arith, c .before .before .before .loop .inv .1, c .one-if .ensures .1), count-more (c .before .before .before .before .args .work .now) (c .before .before .before .before .args .b) (c .before .before .before .before .args .width) (c .before .before .before .loop .j) _ _ (rowIn (c .before .before .before .before .args .work .now) (c .before .before .before .before .args .a) (c .before .before .before .before .args .width) (c .before .before .before .before .args .i)) (c .before .before .before .loop .inv .2) (c .one-if .ensures .0 ∙ ap (λ t. tick t 0) (c .before .same-rows .ensures)))
 
 returns : tie.Need-returns Inv-loop μ-loop
 returns c = count-whole (c .before .before .args .work .now) (c .before .before .args .b) (c .before .before .args .width) (c .before .before .args .n) (c .before .loop .j) (rowIn (c .before .before .args .work .now) (c .before .before .args .a) (c .before .before .args .width) (c .before .before .args .i)) (c .before .loop .inv .0) (omega arith) (c .before .loop .inv .2)
@@ -44,7 +47,8 @@ count-of-spec =
     Inv-loop
     μ-loop
     loop-holds
-    one-if-same-requires
+    same-rows-requires
+    one-if-requires
     add-k
     add-j
     loop-less
