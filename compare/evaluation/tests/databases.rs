@@ -13,7 +13,9 @@ use std::collections::BTreeMap;
 #[path = "../../reference/tests/common/mod.rs"]
 mod common;
 
-use common::{accept, text, EXAMPLE};
+use common::{
+    accept, bags, equal_rows, having, no_members, no_rows, rounding, where_true, EXAMPLE, ROUNDED,
+};
 
 fn random_counts(rng: &mut Rng, length: usize) -> Vec<u8> {
     (0..length).map(|_| rng.bits() as u8).collect()
@@ -275,9 +277,6 @@ fn answers(text: &str) -> Vec<u32> {
     all(text).into_iter().map(|(answer, _)| answer).collect()
 }
 
-/// A view of all rows of table 0.
-const VIEW: &str = "03 01 00 01 10 010000";
-
 #[test]
 fn m1_m2_a_view_of_a_view() {
     assert_eq!(answers(EXAMPLE), [0, 0, 0, 0, 0, 0, 0, 0, 0, 1, 1, 1, 1]);
@@ -286,68 +285,41 @@ fn m1_m2_a_view_of_a_view() {
 
 #[test]
 fn m3_rounding() {
-    for (value, rounded) in [
-        (14, 10),
-        (15, 20),
-        (-15, -20),
-        (-14, -10),
-        (5, 10),
-        (-5, -10),
-        (0, 0),
-    ] {
-        let view = format!("03 01 00 01 10 05000a 00{:04x}", value as i16);
-        let text = text(&["01 01 01 00 0000 0000", &view, "07 01 00"]);
-        assert_eq!(all(&text), [(1, vec![vec![vec![0]], vec![vec![rounded]]])]);
+    for (value, rounded) in ROUNDED {
+        let rows = vec![vec![vec![0]], vec![vec![rounded]]];
+        assert_eq!(all(&rounding(value)), [(1, rows)]);
     }
 }
 
 #[test]
 fn m4_bags() {
-    let text = text(&[
-        "01 02 01 00 0005 0005",
-        "01 01 01 00 0005 0005",
-        "03 01 00 01 10 010000",
-        "03 01 01 01 10 010000",
-        "05 02 03",
-        "06 02 03",
-        "06 03 02",
-        "07 04 00",
-    ]);
     let rows = [2, 1, 2, 1, 3, 1, 1].map(|times| vec![vec![5]; times]);
-    assert_eq!(all(&text), [(1, rows.to_vec())]);
+    assert_eq!(all(&bags()), [(1, rows.to_vec())]);
 }
 
 #[test]
 fn m5_negative_of_where_true() {
-    let with = |goal| text(&["01 02 01 00 0000 0003", VIEW, goal]);
-    assert_eq!(answers(&with("07 01 00")), [1; 16]);
-    assert_eq!(answers(&with("07 01 01")), [0; 16]);
+    assert_eq!(answers(&where_true("07 01 00")), [1; 16]);
+    assert_eq!(answers(&where_true("07 01 01")), [0; 16]);
 }
 
 #[test]
 fn m6_no_rows() {
     for goal in ["07 01 00", "07 01 01"] {
-        let text = text(&["01 00 01 00 0000 0003", VIEW, goal]);
-        assert_eq!(all(&text), [(0, vec![vec![], vec![]])]);
+        assert_eq!(all(&no_rows(goal)), [(0, vec![vec![], vec![]])]);
     }
 }
 
 #[test]
 fn m7_equal_keys() {
-    for (table, answer) in [("01 02 01 01 0004 0004", 0), ("01 02 01 00 0004 0004", 1)] {
-        let text = text(&[table, VIEW, "07 01 00"]);
-        assert_eq!(all(&text), [(answer, vec![vec![vec![4]; 2]; 2])]);
+    for (key, answer) in [("01", 0), ("00", 1)] {
+        let rows = vec![vec![vec![4]; 2]; 2];
+        assert_eq!(all(&equal_rows(key)), [(answer, rows)]);
     }
 }
 
 #[test]
 fn m8_having_on_the_group() {
-    // having 100 < sum, select sum
-    let text = text(&[
-        "01 02 01 00 0032 0033",
-        "04 01 00 00 01 10 12 000064 0701 010000 0701 010000",
-        "07 01 00",
-    ]);
     let group = |a, b, sums| vec![vec![vec![a], vec![b]], sums];
     let expected = [
         (0, group(50, 50, vec![])),
@@ -355,17 +327,12 @@ fn m8_having_on_the_group() {
         (1, group(51, 50, vec![vec![101]])),
         (1, group(51, 51, vec![vec![102]])),
     ];
-    assert_eq!(all(&text), expected);
+    assert_eq!(all(&having()), expected);
 }
 
 #[test]
 fn m9_no_group_without_members() {
-    let text = text(&[
-        "01 02 01 00 0000 0003",
-        "04 01 00 00 01 1410 10 0700 010000",
-        "07 01 00",
-    ]);
-    let all = all(&text);
+    let all = all(&no_members());
     assert_eq!(all.len(), 16);
     assert!(all
         .iter()

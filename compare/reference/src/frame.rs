@@ -218,12 +218,7 @@ impl<'a> Reader<'a> {
                 self.boxed(from)?,
             ),
             0x07 => {
-                let aggregate = match self.limited(0, 3)? {
-                    0 => Aggregate::Count,
-                    1 => Aggregate::Sum,
-                    2 => Aggregate::Min,
-                    _ => Aggregate::Max,
-                };
+                let aggregate = Aggregate::ALL[usize::from(self.limited(0, 3)?)];
                 Expr::Aggregate(aggregate, self.boxed(from)?)
             }
             _ => return Err(4),

@@ -89,6 +89,16 @@ pub enum Aggregate {
     Max,
 }
 
+impl Aggregate {
+    /// By number.
+    pub const ALL: [Aggregate; 4] = [
+        Aggregate::Count,
+        Aggregate::Sum,
+        Aggregate::Min,
+        Aggregate::Max,
+    ];
+}
+
 /// Expressions, tokens 00 to 07.
 #[derive(Clone, Debug, PartialEq, Eq)]
 pub enum Expr {

@@ -2,7 +2,10 @@
 
 mod common;
 
-use common::{accept, fresh_look, refuse, text, whole_look, EXAMPLE};
+use common::{
+    accept, bags, equal_rows, fresh_look, having, no_members, no_rows, refuse, rounding, text,
+    where_true, whole_look, EXAMPLE, ROUNDED, VIEW,
+};
 use reference::candidates::candidate_database;
 use reference::eval::{nearest, relations, Rows};
 use reference::{report, Answer, File};
@@ -55,29 +58,16 @@ fn m2_negative_goal_above_a_view() {
 
 #[test]
 fn m3_rounding() {
-    let values = [14, 15, -15, -14, 5, -5, 0];
-    let rounded = [10, 20, -20, -10, 10, -10, 0];
-    for (value, expected) in values.into_iter().zip(rounded) {
-        assert_eq!(nearest(10, value), expected);
-        let view = format!("03 01 00 01 10 05000a 00{:04x}", value as i16);
-        let file = accept(&text(&["01 01 01 00 0000 0000", &view, "07 01 00"]));
-        assert_eq!(rows(&file, 0)[1], vec![vec![expected]]);
+    for (value, rounded) in ROUNDED {
+        assert_eq!(nearest(10, value), rounded);
+        let file = accept(&rounding(value));
+        assert_eq!(rows(&file, 0)[1], vec![vec![rounded]]);
     }
 }
 
 #[test]
 fn m4_bags() {
-    let file = accept(&text(&[
-        "01 02 01 00 0005 0005",
-        "01 01 01 00 0005 0005",
-        "03 01 00 01 10 010000",
-        "03 01 01 01 10 010000",
-        "05 02 03",
-        "06 02 03",
-        "06 03 02",
-        "07 04 00",
-    ]));
-    let all = rows(&file, 0);
+    let all = rows(&accept(&bags()), 0);
     assert_eq!(all[4], vec![vec![5]; 3]);
     assert_eq!(all[5], vec![vec![5]]);
     assert_eq!(all[6], vec![vec![5]]);
@@ -85,17 +75,14 @@ fn m4_bags() {
 
 #[test]
 fn m5_negative_of_where_true() {
-    let frames = ["01 02 01 00 0000 0003", "03 01 00 01 10 010000"];
-    let negative = text(&[frames[0], frames[1], "07 01 01"]);
-    assert_eq!(whole_look(&negative), Answer::NoCase);
-    let positive = text(&[frames[0], frames[1], "07 01 00"]);
-    assert_eq!(whole_look(&positive), Answer::Case(0));
+    assert_eq!(whole_look(&where_true("07 01 01")), Answer::NoCase);
+    assert_eq!(whole_look(&where_true("07 01 00")), Answer::Case(0));
 }
 
 #[test]
 fn m6_no_rows() {
     for goal in ["07 01 00", "07 01 01"] {
-        let text = text(&["01 00 01 00 0000 0003", "03 01 00 01 10 010000", goal]);
+        let text = no_rows(goal);
         assert_eq!(accept(&text).candidates, 1);
         assert_eq!(whole_look(&text), Answer::NoCase);
     }
@@ -103,21 +90,13 @@ fn m6_no_rows() {
 
 #[test]
 fn m7_equal_keys() {
-    let frames = ["03 01 00 01 10 010000", "07 01 00"];
-    let keyed = text(&["01 02 01 01 0004 0004", frames[0], frames[1]]);
-    assert_eq!(whole_look(&keyed), Answer::NoCase);
-    let free = text(&["01 02 01 00 0004 0004", frames[0], frames[1]]);
-    assert_eq!(whole_look(&free), Answer::Case(0));
+    assert_eq!(whole_look(&equal_rows("01")), Answer::NoCase);
+    assert_eq!(whole_look(&equal_rows("00")), Answer::Case(0));
 }
 
 #[test]
 fn m8_having_on_the_group() {
-    // having 100 < sum, select sum.
-    let text = text(&[
-        "01 02 01 00 0032 0033",
-        "04 01 00 00 01 10 12 000064 0701 010000 0701 010000",
-        "07 01 00",
-    ]);
+    let text = having();
     let all = rows(&accept(&text), 1);
     assert_eq!(all[0], vec![vec![50], vec![51]]);
     assert_eq!(all[1], vec![vec![101]]);
@@ -126,11 +105,7 @@ fn m8_having_on_the_group() {
 
 #[test]
 fn m9_no_group_without_members() {
-    let text = text(&[
-        "01 02 01 00 0000 0003",
-        "04 01 00 00 01 1410 10 0700 010000",
-        "07 01 00",
-    ]);
+    let text = no_members();
     let file = accept(&text);
     for k in 0..file.candidates {
         assert!(rows(&file, k)[1].is_empty());
@@ -140,10 +115,9 @@ fn m9_no_group_without_members() {
 
 #[test]
 fn m10_number_of_candidates() {
-    let frames = ["03 01 00 01 10 010000", "07 01 00"];
-    let largest = text(&["01 01 02 00 0000 0fff 0000 0fff", frames[0], frames[1]]);
+    let largest = text(&["01 01 02 00 0000 0fff 0000 0fff", VIEW, "07 01 00"]);
     assert_eq!(accept(&largest).candidates, 1 << 24);
-    let larger = text(&["01 01 02 00 0000 0fff 0000 1000", frames[0], frames[1]]);
+    let larger = text(&["01 01 02 00 0000 0fff 0000 1000", VIEW, "07 01 00"]);
     refuse(&larger, 10, 0);
 }
 

@@ -2,11 +2,10 @@
 
 mod common;
 
-use common::{accept, refuse, text, EXAMPLE};
+use common::{accept, refuse, text, EXAMPLE, VIEW};
 
 /// One row and two columns from 0 to 3, the first one the key.
 const TABLE: &str = "01 01 02 01 0000 0003 0000 0003";
-const VIEW: &str = "03 01 00 01 10 010000";
 const GOAL: &str = "07 01 00";
 
 /// A file with one view in line 2.

@@ -110,13 +110,7 @@ fn any_expr(rng: &mut Rng, scope: Scope, bytes: usize) -> Expr {
             )
         }
         Shape::Aggregate => {
-            let kinds = [
-                Aggregate::Count,
-                Aggregate::Sum,
-                Aggregate::Min,
-                Aggregate::Max,
-            ];
-            let kind = *rng.pick(&kinds);
+            let kind = *rng.pick(&Aggregate::ALL);
             Expr::Aggregate(kind, Box::new(expr(rng, scope.member(), bytes - 2)))
         }
     }

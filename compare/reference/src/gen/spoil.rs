@@ -24,13 +24,7 @@ pub fn spoil(rng: &mut Rng, syntax: &Syntax) -> Syntax {
 
 /// Rule on 07: wraps some expression.
 fn aggregate_anywhere(rng: &mut Rng, syntax: &mut Syntax) {
-    let kinds = [
-        Aggregate::Count,
-        Aggregate::Sum,
-        Aggregate::Min,
-        Aggregate::Max,
-    ];
-    let kind = *rng.pick(&kinds);
+    let kind = *rng.pick(&Aggregate::ALL);
     change_expr(rng, syntax, |expr| {
         *expr = Expr::Aggregate(kind, Box::new(expr.clone()));
     });
