@@ -1,4 +1,4 @@
--- What a reader must believe of the cases that the code finds.
+-- What the functions on cases are given, and what they give.
 pub mod Given
 pub mod Validity
 pub mod Needs

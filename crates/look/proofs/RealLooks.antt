@@ -9,7 +9,7 @@ use lib.ListN.{length}
 use Rattle.value.proofs.Decides.{by-test}
 use Rattle.meaning.specs.Syntax.{File}
 use Rattle.meaning.specs.Look.{Answer, After, refusal, workSize, look}
-use Rattle.meaning.specs.Looks.{Lists, PassesOverNone, Zeroes, RefusedUnchanged, AcceptsFitting}
+use Rattle.meaning.specs.Looks.{EveryList, PassesOverNone, Zeroes, RefusedUnchanged, AcceptsFitting}
 use Rattle.meaning.proofs.Demand3.{demand-3 as demand-3-of-files, any-start as any-start-of-files, fitting-accepted as fitting-accepted-of-files}
 use Rattle.meaning.proofs.ListOfLooks.{zeroes as zeroes-of-files, refused-unchanged as refused-unchanged-of-files}
 use Rattle.rules.specs.Check.{Outcome}
@@ -37,8 +37,8 @@ look-of-text text F e = fun-ext (λ start. fun-ext (λ count. fun-ext (λ work. 
 module _ (text : List ℕ) (F : File) (e : fileOf text ≡ Outcome.accepted F) where
   -- "Demand 3 takes any list of looks, also an empty one, at one file that meets none of 1 to 10; that is an accepted file": "What demand 3
   -- says of a list is one statement about the list as a whole"
-  pub demand-3 : Lists F (lookOf text)
-  demand-3 = subst (Lists F) (sym (look-of-text text F e)) (demand-3-of-files F (accepted-text text F e .well-formed))
+  pub demand-3 : EveryList F (lookOf text)
+  demand-3 = subst (EveryList F) (sym (look-of-text text F e)) (demand-3-of-files F (accepted-text text F e .well-formed))
 
   -- "An accepted look, in a list or alone, from any start, .. passes over no case: from its start up to its k, its next or, at "no case",
   -- N, that end left out, no candidate is a case"

@@ -35,11 +35,13 @@ pub fn clear(work: &mut [i32])
     }
 }
 
-// "end = min(start + count, N)", where the start is not above N: the sum is never taken where it would be too large.
+// "end = min(start + count, N)": the sum is never taken where it would be too large.
 // Refused: the start; the start where N is due.
 pub fn end_of(start: u64, count: u64, n: u64) -> u64
-    requires { ⌜ start ≤ n ⌝ }
     ensures { λ r. ⌜ r ≡ min (start + count) n ⌝ }
 {
+    if n < start {
+        return n;
+    }
     if n - start < count { n } else { start + count }
 }

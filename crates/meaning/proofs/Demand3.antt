@@ -5,7 +5,7 @@ use mathlib.Core.Bool.{true}
 use Rattle.meaning.specs.Bounds.{wellFormed}
 use Rattle.meaning.specs.Candidates.{Numbered}
 use Rattle.meaning.specs.Look.{look}
-use Rattle.meaning.specs.Looks.{AcceptsFitting, Lists, PassesOverNone}
+use Rattle.meaning.specs.Looks.{AcceptsFitting, EveryList, PassesOverNone}
 use Rattle.meaning.specs.Syntax.{File}
 use Rattle.meaning.proofs.Demand2.{cases}
 use Rattle.meaning.proofs.ListOfLooks.{accepts-fitting, lists, passes-over-none}
@@ -14,7 +14,7 @@ use Rattle.meaning.proofs.WellFormed.{rules}
 
 module _ (F : File) (w : wellFormed F ≡ true) where
   -- the list has ended in "case k" exactly when .., in "no case" exactly when .., else the next start is the sum of the counts
-  pub demand-3 : Lists F (look F)
+  pub demand-3 : EveryList F (look F)
   demand-3 = lists F (rules F w .columns) (cases F w)
 
   -- "no look, from any start, passes over one"

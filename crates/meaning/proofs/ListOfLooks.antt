@@ -17,7 +17,7 @@ use Rattle.meaning.specs.Cases.{Case, isCase}
 use Rattle.meaning.specs.Bounds.{ordered}
 use Rattle.meaning.specs.Candidates.{cellCount, candidates, database}
 use Rattle.meaning.specs.Look.{Answer, After, seek, zeros, workSize, candidate, shownIn, searched, look}
-use Rattle.meaning.specs.Looks.{Ask, Run, told, one, runFrom, run, CaseAt, NoneBelow, First, NoDatabase, Whole, Lists, Accepted, upTo, PassesOverNone, Zeroes, RefusedUnchanged, AcceptsFitting}
+use Rattle.meaning.specs.Looks.{Ask, Run, told, one, runFrom, run, CaseAt, NoneBelow, First, NoDatabase, Whole, EveryList, Accepted, upTo, PassesOverNone, Zeroes, RefusedUnchanged, AcceptsFitting}
 use Rattle.meaning.proofs.Seeks.{Sought, seeks}
 use Rattle.meaning.proofs.Numbering.{candidates-above, numbered}
 
@@ -203,6 +203,6 @@ module _ (F : File) (decides : (d : Database) → Decides (isCase F (F .goal) d)
     }
 
 -- THE THEOREM
-pub lists : (F : File) → all ordered (F .tables) ≡ true → ((d : Database) → Decides (isCase F (F .goal) d) (Case F d (F .goal))) → Lists F (look F)
+pub lists : (F : File) → all ordered (F .tables) ≡ true → ((d : Database) → Decides (isCase F (F .goal) d) (Case F d (F .goal))) → EveryList F (look F)
 lists F o decides qs =
     whole F decides o (run (look F) qs) (each F decides (Run.going 0 0) qs (refl, candidates-above F o, λ j l. absurd (omega arith)))

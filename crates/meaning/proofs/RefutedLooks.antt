@@ -22,7 +22,7 @@ use Rattle.meaning.specs.Valid.{valid}
 use Rattle.meaning.specs.Cases.{PTC, isCase, someRow}
 use Rattle.meaning.specs.Candidates.{candidates, cells, database}
 use Rattle.meaning.specs.Look.{Answer, After, zeros, candidate, shownIn, look}
-use Rattle.meaning.specs.Looks.{Ask, Look, CaseAt, Lists, PassesOverNone, Zeroes, RefusedUnchanged, AcceptsFitting}
+use Rattle.meaning.specs.Looks.{Ask, Look, CaseAt, EveryList, PassesOverNone, Zeroes, RefusedUnchanged, AcceptsFitting}
 use Rattle.meaning.proofs.Numbering.{numbered}
 use Rattle.meaning.proofs.ListOfLooks.{apart}
 
@@ -133,7 +133,7 @@ ask n = record { count = n; work = replicate 9216 (pos 0); inst = pos 7 ∷ [] }
 abbrev only-first : Look
 only-first start count work inst = cond (eqb start 0) (look tiny start count work inst) (After.after (Answer.spent (start + count)) (zeros work) inst)
 
-pub not-only-first : Lists tiny only-first → ⊥
+pub not-only-first : EveryList tiny only-first → ⊥
 unfolding look candidate isCase valid someRow candidates database cells size digit compare sure holds between sameValue
 not-only-first lists = lists (ask 1 ∷ ask 5 ∷ []) .else 6 refl .1 1 (omega arith) case-1
 
@@ -141,21 +141,21 @@ not-only-first lists = lists (ask 1 ∷ ask 5 ∷ []) .else 6 refl .1 1 (omega a
 abbrev made-up : Look
 made-up start count work inst = After.after (Answer.spent (start + 1)) (zeros work) inst
 
-pub not-made-up : Lists tiny made-up → ⊥
+pub not-made-up : EveryList tiny made-up → ⊥
 not-made-up lists = let e : _≡_ {A = ℕ} 1 5 = lists (ask 5 ∷ []) .else 1 refl .0 in omega arith
 
 -- calls every stretch spent, with the next that its count gives
 abbrev never-searched : Look
 never-searched start count work inst = After.after (Answer.spent (start + count)) (zeros work) inst
 
-pub not-never-searched : Lists tiny never-searched → ⊥
+pub not-never-searched : EveryList tiny never-searched → ⊥
 not-never-searched lists = lists (ask 2 ∷ []) .else 2 refl .1 1 (omega arith) case-1
 
 -- says spent before its count is looked through
 abbrev early : Look
 early start count work inst = look tiny start (min count 1) work inst
 
-pub not-early : Lists tiny early → ⊥
+pub not-early : EveryList tiny early → ⊥
 unfolding look candidate isCase valid someRow candidates database cells size digit compare sure holds between sameValue
 not-early lists = let e : _≡_ {A = ℕ} 1 2 = lists (ask 2 ∷ []) .else 1 refl .0 in omega arith
 
@@ -163,7 +163,7 @@ not-early lists = let e : _≡_ {A = ℕ} 1 2 = lists (ask 2 ∷ []) .else 1 ref
 abbrev unlooked : Look
 unlooked start count work inst = After.after Answer.noCase (zeros work) inst
 
-pub not-unlooked : Lists tiny unlooked → ⊥
+pub not-unlooked : EveryList tiny unlooked → ⊥
 unfolding candidates size
 not-unlooked lists = let l : 3 ≤ 1 = lists (ask 1 ∷ []) .no-case-when .0 refl .0 in omega arith
 
@@ -177,7 +177,7 @@ widened (After.after (Answer.refused n l) work inst) = After.after (Answer.refus
 abbrev hasty : Look
 hasty start count work inst = widened (look tiny start count work inst)
 
-pub not-hasty : Lists tiny hasty → ⊥
+pub not-hasty : EveryList tiny hasty → ⊥
 unfolding look candidate isCase valid someRow candidates database cells size digit compare sure holds between sameValue
 not-hasty lists = let l : 3 ≤ 1 = lists (ask 1 ∷ []) .no-case-when .0 refl .0 in omega arith
 
@@ -192,7 +192,7 @@ with-inst f start count work inst = go (look tiny start count work inst)
 abbrev always-0 : Look
 always-0 = with-inst (shownIn tiny 0)
 
-pub not-always-0 : Lists tiny always-0 → ⊥
+pub not-always-0 : EveryList tiny always-0 → ⊥
 unfolding look candidate isCase valid someRow candidates database cells size digit shown compare sure holds between sameValue
 not-always-0 lists =
     let e : pos 0 ∷ [] ≡ pos 1 ∷ [] = lists (ask 2 ∷ []) .stands in
@@ -202,7 +202,7 @@ not-always-0 lists =
 abbrev unwritten : Look
 unwritten = with-inst (λ inst. inst)
 
-pub not-unwritten : Lists tiny unwritten → ⊥
+pub not-unwritten : EveryList tiny unwritten → ⊥
 unfolding look candidate isCase valid someRow candidates database cells size digit shown compare sure holds between sameValue
 not-unwritten lists =
     let e : pos 7 ∷ [] ≡ pos 1 ∷ [] = lists (ask 2 ∷ []) .stands in

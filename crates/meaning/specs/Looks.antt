@@ -91,8 +91,8 @@ module _ (F : File) where
     pub stands : Stands r
 
   -- demand 3: one statement about every list of looks
-  abbrev pub Lists : Look → Type 0
-  Lists look = (qs : List Ask) → Whole (run look qs)
+  abbrev pub EveryList : Look → Type 0
+  EveryList look = (qs : List Ask) → Whole (run look qs)
 
 -- ---- one look, in a list or alone, from any start
 

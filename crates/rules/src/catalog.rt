@@ -19,7 +19,7 @@ const TABLE: u8 = 1;
 const VIEW: u8 = 2;
 
 // The first number of candidates that is too large.
-const TOO_MANY: u64 = 16777217;
+pub const TOO_MANY: u64 = 16777217;
 
 // The number of columns of a relation.
 // Refused: the kind; the row bound.

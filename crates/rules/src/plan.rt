@@ -11,14 +11,11 @@ ghost use lib.ListN.{length};
 ghost use Rattle.rules.specs.FileOf.{fileOf};
 ghost use Rattle.rules.specs.Plans.{Walks, startFrom, frameOf, Starts, Plans};
 
-// The first number of candidates that is too large.
-const TOO_MANY: u64 = 16777217;
-
 // Number 0: the plan of a file. Any other: a refusal with its line.
 pub struct Plan {
     pub number: u8,
     pub line: u16,
-    pub bytes: [u8; 5462],
+    pub bytes: [u8; text::ROOM],
     pub used: usize,
     pub starts: [u32; 16],
     pub shape: [u8; 64],
@@ -122,7 +119,7 @@ fn refusal(number: u8, line: u16) -> Plan
     Plan {
         number: number,
         line: line,
-        bytes: [0u8; 5462],
+        bytes: [0u8; text::ROOM],
         used: 0,
         starts: [0u32; 16],
         shape: [0u8; 64],
@@ -157,7 +154,7 @@ pub fn check(text: &[u8]) -> Plan
         return refusal(3, 0);
     }
     let n = catalog::candidates_of(&bytes[..used], s.tables);
-    if n == TOO_MANY {
+    if n == catalog::TOO_MANY {
         return refusal(10, 0);
     }
     let starts = starts_of(&bytes[..used], s.tables, s.keys);

@@ -1,4 +1,4 @@
--- What a reader must believe of the evaluators.
+-- What the evaluators are given, and what they give.
 pub mod Numbers
 pub mod Scopes
 pub mod Evaluated
