@@ -8,7 +8,7 @@ use lib.IntN.{ℤ}
 use lib.ListN.{length}
 use Rattle.value.proofs.Decides.{by-test}
 use Rattle.meaning.specs.Syntax.{File}
-use Rattle.meaning.specs.Look.{Answer, After, refusal, workSize, look}
+use Rattle.meaning.specs.Look.{Answer, After, workIn, instIn, refusal, workSize, look}
 use Rattle.meaning.specs.Looks.{EveryList, PassesOverNone, Zeroes, RefusedUnchanged, AcceptsFitting}
 use Rattle.meaning.proofs.Demand3.{demand-3 as demand-3-of-files, any-start as any-start-of-files, fitting-accepted as fitting-accepted-of-files}
 use Rattle.meaning.proofs.ListOfLooks.{zeroes as zeroes-of-files, refused-unchanged as refused-unchanged-of-files}
@@ -55,14 +55,8 @@ module _ (text : List ℕ) (F : File) (e : fileOf text ≡ Outcome.accepted F) w
 
 -- ---- a refusal, of any text
 
-abbrev workOf : After → List ℤ
-workOf (After.after a w i) = w
-
-abbrev instOf : After → List ℤ
-instOf (After.after a w i) = i
-
 same-buffers : (b : After) (a : Answer) (work inst w i : List ℤ) → b ≡ After.after a work inst → (x : Answer) → b ≡ After.after x w i → (w ≡ work) × (i ≡ inst)
-same-buffers b a work inst w i p x q = (ap workOf (sym q ∙ p), ap instOf (sym q ∙ p))
+same-buffers b a work inst w i p x q = (ap workIn (sym q ∙ p), ap instIn (sym q ∙ p))
 
 -- the answer to a refused text
 refused-look : (text : List ℕ) (n l : ℕ) → fileOf text ≡ Outcome.refused n l → (start count : ℕ) (work inst : List ℤ)

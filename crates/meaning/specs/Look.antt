@@ -36,6 +36,15 @@ valuesOf (Answer.refused n l) = n ∷ l ∷ []
 pub data After : Type 0 where
   after : Answer → List ℤ → List ℤ → After
 
+abbrev pub answerIn : After → Answer
+answerIn (After.after a work inst) = a
+
+abbrev pub workIn : After → List ℤ
+workIn (After.after a work inst) = work
+
+abbrev pub instIn : After → List ℤ
+instIn (After.after a work inst) = inst
+
 -- the least of s, .., s + n - 1 of which p holds, or s + n
 abbrev pub seek : (ℕ → Bool) → ℕ → ℕ → ℕ
 seek p s zero = s

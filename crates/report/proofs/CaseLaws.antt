@@ -11,6 +11,7 @@ use Rattle.meaning.specs.Candidates.{cellCount, cells, database}
 use Rattle.meaning.proofs.Numbering.{length-cells}
 use Rattle.text.specs.Text.{line}
 use Rattle.text.specs.Answers.{Written}
+use Rattle.text.proofs.Laws.{text-one}
 use Rattle.text.proofs.Writing.{length-line}
 use Rattle.rules.specs.Check.{Outcome}
 use Rattle.rules.specs.FileOf.{fileOf}
@@ -21,7 +22,7 @@ use Rattle.cases.proofs.OutlineLaws.{bound-is}
 use Rattle.cases.proofs.ValidLaws.{table-width}
 use Rattle.report.specs.Output.{caseFrame}
 use Rattle.report.specs.Lines.{Grown, Tabled, TablesLined, CaseLined}
-use Rattle.report.proofs.LineLaws.{text-one, grown-line, grown-more}
+use Rattle.report.proofs.LineLaws.{grown-line, grown-more}
 
 module _ (text : List ℕ) (p : Plan) (P : Plans (fileOf text) p) where
   -- the plan of an accepted text says where the cells of a candidate stand

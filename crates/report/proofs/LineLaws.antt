@@ -11,20 +11,12 @@ use Rattle.value.specs.Integer.{highByte, lowByte}
 use Rattle.value.proofs.Decides.{by-test}
 use Rattle.text.specs.Text.{line, textOf}
 use Rattle.text.specs.Answers.{fits, behind, Written}
+use Rattle.text.proofs.Laws.{text-one, text-append}
 use Rattle.text.proofs.Writing.{length-line, behind-line, take-written, drop-written, length-written}
 use Rattle.report.specs.Output.{numberBytes}
 use Rattle.report.specs.Lines.{Grown, CellsPut, TableLined}
 
 -- ---- lines
-
-pub text-one : (f : List ℕ) → textOf (f ∷ []) ≡ line f
-unfolding textOf
-text-one f = append-nil (line f)
-
-text-append : (fs gs : List (List ℕ)) → textOf (fs ++ gs) ≡ textOf fs ++ textOf gs
-unfolding textOf
-text-append [] gs = refl
-text-append (f ∷ fs) gs = ap (λ (l : List ℕ). line f ++ l) (text-append fs gs) ∙ sym (append-assoc (line f) (textOf fs) (textOf gs))
 
 pub grown-line : {f out out′ : List ℕ} {at r : ℕ} → Written f at out r out′ → at + length (line f) ≤ length out → Grown (f ∷ []) at out r out′
 grown-line {f} {out} {out′} {at} {r} w room = record {

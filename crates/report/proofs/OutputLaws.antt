@@ -1,11 +1,11 @@
 -- The program's output from the answer to its look, and the output's length. Assumes nothing.
-use mathlib.Core.Path.{_≡_, refl, sym, ap, subst, _∙_}
+use mathlib.Core.Path.{_≡_, refl, sym, ap, ap₂, subst, _∙_}
 use mathlib.Core.Bool.{cond}
 use mathlib.Core.List.{List, [], _∷_, map}
 use Prim.Native.Nat.{ℕ, _+_, _-_, _≤_, _<_, min}
 use native.Mathlib.Omega.{arith}
 use borrow.Author.Tests.{le-ltb, lt-ltb, ltb-true, ltb-false, eq-eqb}
-use lib.Dec.{ltb}
+use lib.Dec.{ltb, eqb}
 use lib.IntN.{ℤ}
 use lib.ListN.{length, take, drop, length-append, length-drop, length-map}
 use lib.Seq.{take-at}
@@ -13,7 +13,7 @@ use Rattle.value.specs.Value.{shown}
 use Rattle.value.proofs.Decides.{by-test}
 use Rattle.meaning.specs.Syntax.{File}
 use Rattle.meaning.specs.Candidates.{cellCount, candidates, cells}
-use Rattle.meaning.specs.Look.{Answer, After, numberOf, seek, zeros, workSize, candidate, shownIn, verdict, look}
+use Rattle.meaning.specs.Look.{Answer, After, answerIn, instIn, numberOf, seek, searched, zeros, workSize, candidate, shownIn, verdict, look}
 use Rattle.meaning.proofs.Numbering.{length-cells}
 use Rattle.text.specs.Answers.{Written}
 use Rattle.text.proofs.Writing.{length-line}
@@ -25,7 +25,7 @@ use Rattle.look.specs.Looks.{answerOf, lookOf}
 use Rattle.look.specs.declared.Answer.{Answer as Answered}
 use Rattle.look.specs.declared.Answer.the-variants.{Case, NoCase, Spent, Refused}
 use Rattle.look.proofs.CodeLaws.{codes-few}
-use Rattle.look.proofs.LookLaws.{look-on}
+use Rattle.look.proofs.LookLaws.{look-on, verdict-case, verdict-none}
 use Rattle.look.proofs.RealLooks.{look-of-text}
 use Rattle.report.specs.Output.{noCaseFrame, refusalFrame, answerFrames, searchedAll, outcomeFrames, outputOf}
 use Rattle.report.specs.Lines.{outputRoom, Printed, Grown, CaseLined}
@@ -37,13 +37,24 @@ module _ (F : File) where
   abbrev pub first : ℕ
   first = seek (candidate F) 0 (candidates F)
 
+  searched-first : searched F 0 (candidates F) [] [] ≡ verdict F (candidates F) first [] []
+  searched-first =
+      let n = candidates F in
+      let to : min (0 + n) n ≡ n = omega arith in
+      let span : n - 0 ≡ n = omega arith in
+      ap (λ end. verdict F end (seek (candidate F) 0 (end - 0)) [] []) to ∙ ap (λ i. verdict F n (seek (candidate F) 0 i) [] []) span
+
   pub all-case : first < candidates F → searchedAll F ≡ Answer.case first
   unfolding searchedAll
-  all-case h = rw (lt-ltb first (candidates F) h)
+  all-case h = ap answerIn (searched-first ∙ verdict-case F [] [] (candidates F) first h)
+
+  -- at the end of all candidates a search is not spent
+  at-end : cond (eqb (candidates F) (candidates F)) Answer.noCase (Answer.spent (candidates F)) ≡ Answer.noCase
+  at-end = rw (eq-eqb (candidates F) (candidates F) refl)
 
   pub all-none : candidates F ≤ first → searchedAll F ≡ Answer.noCase
   unfolding searchedAll
-  all-none h = rw (le-ltb first (candidates F) h)
+  all-none h = ap answerIn (searched-first ∙ verdict-none F [] [] (candidates F) first h) ∙ at-end
 
   -- the instance buffer after it
   abbrev pub shownAll : List ℤ → List ℤ
@@ -56,22 +67,20 @@ module _ (F : File) where
 
   pub whole-look : (count : ℕ) (work inst : List ℤ) → candidates F ≤ count → workSize ≤ length work → cellCount F ≤ length inst
       → look F 0 count work inst ≡ After.after (searchedAll F) (zeros work) (shownAll inst)
-  unfolding searchedAll
   whole-look count work inst many whole room =
       let n = candidates F in
       let from : 0 ≤ n = omega arith in
       let to : n ≡ min (0 + count) n = omega arith in
       let span : n - 0 ≡ n = omega arith in
+      let both : Answer → List ℤ → After = λ a i. After.after a (zeros work) i in
       look-on F 0 count work inst n whole room from to ∙ ap (λ i. verdict F n (seek (candidate F) 0 i) work inst) span
-      ∙ by-test (ltb first n) (λ e. rw e) (λ e. rw (e, eq-eqb n n refl))
+      ∙ by-test (ltb first n)
+      (λ t. let shows : shownIn F first inst ≡ shownAll inst = rw t in
+      verdict-case F work inst n first (ltb-true _ _ t) ∙ ap₂ both (sym (all-case (ltb-true _ _ t))) shows)
+      (λ t. let keeps : inst ≡ shownAll inst = rw t in
+      verdict-none F work inst n first (ltb-false _ _ t) ∙ ap₂ both (at-end ∙ sym (all-none (ltb-false _ _ t))) keeps)
 
 -- ---- a look at a text from 0 to the end
-
-abbrev answerIn : After → Answer
-answerIn (After.after x w i) = x
-
-abbrev instIn : After → List ℤ
-instIn (After.after x w i) = i
 
 abbrev caseIn : Answer → ℕ
 caseIn (Answer.case k) = k

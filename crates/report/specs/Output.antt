@@ -1,10 +1,8 @@
 -- "The program": what it prints for a text. "It searches from 0 to the end. Output, one frame a line: 80 and k in four bytes, then for
 -- each table 81, relation, rows, values row by row in two bytes; or 82 for no case; or 8f, number, line in two bytes." Assumes nothing:
 -- these are definitions, and they compute.
-use mathlib.Core.Bool.{cond}
 use mathlib.Core.List.{List, [], _∷_, _++_, map}
 use Prim.Native.Nat.{ℕ, suc, _/_, _%_}
-use lib.Dec.{ltb}
 use lib.IntN.{ℤ}
 use lib.ListN.{length}
 use Rattle.value.specs.Integer.{highByte, lowByte}
@@ -12,7 +10,7 @@ use Rattle.value.specs.Value.{Value, shown}
 use Rattle.meaning.specs.Lists.{joined}
 use Rattle.meaning.specs.Syntax.{File, Row, Database}
 use Rattle.meaning.specs.Candidates.{candidates, database}
-use Rattle.meaning.specs.Look.{Answer, seek, candidate}
+use Rattle.meaning.specs.Look.{Answer, answerIn, searched}
 use Rattle.text.specs.Text.{textOf}
 use Rattle.rules.specs.Check.{Outcome}
 use Rattle.rules.specs.FileOf.{fileOf}
@@ -66,9 +64,9 @@ answerFrames F Answer.noCase = noCaseFrame ∷ []
 answerFrames F (Answer.spent next) = []
 answerFrames F (Answer.refused n l) = refusalFrame n l ∷ []
 
--- "It searches from 0 to the end": the first case of all candidates, or none
+-- "It searches from 0 to the end": the answer of a look from 0 at all candidates, whatever it is lent
 unfoldable pub searchedAll : File → Answer
-searchedAll F = let k = seek (candidate F) 0 (candidates F) in cond (ltb k (candidates F)) (Answer.case k) Answer.noCase
+searchedAll F = answerIn (searched F 0 (candidates F) [] [])
 
 abbrev pub outcomeFrames : Outcome → List (List ℕ)
 outcomeFrames (Outcome.refused n l) = refusalFrame n l ∷ []

@@ -38,10 +38,17 @@ unfolding hex
 hex-snoc [] v = refl
 hex-snoc (b ∷ bs) v = rw (hex-snoc bs v)
 
-pub text-snoc : (fs : List (List ℕ)) (f : List ℕ) → textOf (fs ++ f ∷ []) ≡ textOf fs ++ line f
+pub text-one : (f : List ℕ) → textOf (f ∷ []) ≡ line f
 unfolding textOf
-text-snoc [] f = append-nil (line f)
-text-snoc (g ∷ gs) f = rw (text-snoc gs f) (sym (append-assoc (line g) (textOf gs) (line f)))
+text-one f = append-nil (line f)
+
+pub text-append : (fs gs : List (List ℕ)) → textOf (fs ++ gs) ≡ textOf fs ++ textOf gs
+unfolding textOf
+text-append [] gs = refl
+text-append (f ∷ fs) gs = ap (λ (l : List ℕ). line f ++ l) (text-append fs gs) ∙ sym (append-assoc (line f) (textOf fs) (textOf gs))
+
+pub text-snoc : (fs : List (List ℕ)) (f : List ℕ) → textOf (fs ++ f ∷ []) ≡ textOf fs ++ line f
+text-snoc fs f = text-append fs (f ∷ []) ∙ ap (λ (l : List ℕ). textOf fs ++ l) (text-one f)
 
 pub all-snoc : {A : Type 0} {P : A → Type 0} {xs : List A} {x : A} → All P xs → P x → All P (xs ++ x ∷ [])
 all-snoc All.nil h = All.cons h All.nil
