@@ -1,31 +1,38 @@
 -- What an entry says follows from equations of what computes. Assumes nothing.
 use mathlib.Core.Path.{_≡_}
 use mathlib.Core.Bool.{true, cond}
-use mathlib.Core.List.{List, _++_, map}
+use mathlib.Core.List.{List, [], _∷_, _++_, map}
 use Prim.Native.Nat.{ℕ, _+_, _≤_}
 use native.Mathlib.Omega.{arith}
 use borrow.Author.Tests.{le-ltb}
 use lib.Dec.{ltb}
 use lib.IntN.{ℤ, pos}
 use lib.ListN.{length, drop, replicate, length-replicate}
+use Rattle.value.specs.Bag.{All}
 use Rattle.value.specs.Integer.{bitsOf, maxZ, minZ, roundZ, signedOf, stepsUp}
-use Rattle.value.specs.Value.{Value, between, compare, digit, finish, holds, more, negate, round, sameValue, shown, size, start, sure, weight}
+use Rattle.value.specs.Value.{Value, apply, between, compare, connect, digit, finish, holds, more, negate, round, sameValue, shown, size, start, sure, weight}
 use Rattle.value.proofs.Decides.{dec-true}
+use Rattle.value.proofs.Values.{all-map}
+use Rattle.range.specs.Ranges.{columnOf}
 use Rattle.meaning.specs.Syntax.{File}
 use Rattle.meaning.specs.Reading.{deepE, readE, readC}
 use Rattle.meaning.specs.Rows.{rows}
+use Rattle.meaning.specs.Bounds.{schema, schemas}
 use Rattle.meaning.specs.Valid.{valid}
 use Rattle.meaning.specs.Cases.{isCase, someRow}
 use Rattle.meaning.specs.Candidates.{cellCount, candidates, cells, database}
 use Rattle.meaning.specs.Look.{Answer, After, workSize, refusal, zeros, candidate, searched, look}
+use Rattle.meaning.specs.Looks.{Ask, NoDatabase}
 use Rattle.meaning.proofs.DecidedLists.{ltb-dec}
 use Rattle.meaning.proofs.Relations.{rows-mean}
 use Rattle.text.specs.Text.{framesOf, linesOf, run, step, digit as hexValue, textOf, line, hex, hexDigit}
 use Rattle.rules.specs.Check.{Outcome, checkFrame, checkFrames}
 use Rattle.rules.specs.FileOf.{fileOf}
-use Rattle.look.proofs.RealLooks.{look-of-text, any-start}
+use Rattle.look.proofs.RealLooks.{look-of-text, demand-3, any-start}
+use Rattle.look.specs.Looks.{lookOf}
 use Rattle.report.specs.Output.{numberBytes, tableFrame, searchedAll, outputOf}
-use Rattle.marked.specs.Table.{Entry, Gives, Judges, Right}
+use Rattle.report.specs.Lines.{outputRoom, Printed}
+use Rattle.marked.specs.Table.{Entry, Gives, Judges, Prints, Right}
 
 -- ---- a look
 
@@ -42,37 +49,67 @@ module _ (text : List ℕ) (F : File) (e : fileOf text ≡ Outcome.accepted F) (
   gives : ((work inst : List ℤ) → fitting F s c work inst ≡ After.after a (zeros work) (shows ++ drop (length shows) inst)) → Gives text s c a shows F
   gives f work inst h i = rw (look-of-text text F e, look-fits F s c work inst h i) (f work inst)
 
+  -- by demand 3 of a list of one look
+  no-database : (work inst w i : List ℤ) → s ≡ 0 → a ≡ Answer.noCase → lookOf text s c work inst ≡ After.after a w i → NoDatabase F
+  no-database work inst w i z n q =
+      let ask : Ask = record { count = c; work = work; inst = inst } in
+      let q0 : lookOf text 0 c work inst ≡ After.after Answer.noCase w i = rw (z, n) at q in
+      demand-3 text F e (ask ∷ []) .no-case-when .0 (rw q0) .1
+
   -- by the law on looks from any start, at some buffers that are long enough
   judges : Gives text s c a shows F → Judges s a F
   judges g =
       let work = replicate workSize (pos 0) in
       let inst = replicate (cellCount F) (pos 0) in
-      let q = g work inst (omega (arith, length-replicate workSize (pos 0))) (omega (arith, length-replicate (cellCount F) (pos 0))) in
-      (any-start text F e .none s c work inst a _ _ q, λ k l. any-start text F e .hit s c work inst k _ _ (rw l at q) .2)
+      let q = g work inst (omega (arith, length-replicate workSize (pos 0))) (omega (arith, length-replicate (cellCount F) (pos 0))) in (
+        any-start text F e .none s c work inst a _ _ q,
+        λ k l. any-start text F e .hit s c work inst k _ _ (rw l at q) .2,
+        λ z n. no-database work inst _ _ z n q,
+      )
+
+-- ---- an output
+
+prints : (text output : List ℕ) → outputOf text ≡ output → Prints text output
+prints text output e out r out′ p h =
+    (rw (le-ltb (length out) outputRoom h, e) at (p .length-is), rw (le-ltb (length out) outputRoom h, e) at (p .left))
 
 -- ---- an entry
 
 -- what there is to compute of an entry. To unfold this is to unfold the names of its line
-unfoldable pub Computed : ℕ × Entry → Type 0
+unfoldable pub Computed : Entry → Type 0
 unfolding
     fileOf framesOf linesOf run step hexValue checkFrames checkFrame readE readC deepE signedOf minZ maxZ candidates size
-    candidate isCase valid someRow database cells digit shown between sameValue compare round roundZ stepsUp sure holds negate start weight more finish
-    outputOf searchedAll tableFrame numberBytes bitsOf textOf line hex hexDigit
-Computed (m, Entry.looked text s c a shows) = (F : File) × (fileOf text ≡ Outcome.accepted F)
+    candidate isCase valid someRow database cells digit shown between sameValue compare apply round roundZ stepsUp sure holds negate connect
+    start weight more finish outputOf searchedAll tableFrame numberBytes bitsOf textOf line hex hexDigit
+Computed (Entry.looked text s c a shows) = (F : File) × (fileOf text ≡ Outcome.accepted F)
     × ((work inst : List ℤ) → fitting F s c work inst ≡ After.after a (zeros work) (shows ++ drop (length shows) inst))
-Computed (m, Entry.viewed text k v rs) = (F : File) × (fileOf text ≡ Outcome.accepted F)
+Computed (Entry.viewed text k v rs) = (F : File) × (fileOf text ≡ Outcome.accepted F)
     × (ltb k (candidates F) ≡ true) × (ltb v (length (F .tables) + length (F .views)) ≡ true) × (rows F (database F k) v ≡ map (map Value.number) rs)
-Computed (m, Entry.accepted text n) = (F : File) × (fileOf text ≡ Outcome.accepted F) × (candidates F ≡ n)
-Computed (m, Entry.refused text n l) = fileOf text ≡ Outcome.refused n l
-Computed (m, Entry.printed text output) = outputOf text ≡ output
+Computed (Entry.bounded text v n rs) = (F : File) × (fileOf text ≡ Outcome.accepted F)
+    × (ltb v (length (F .tables) + length (F .views)) ≡ true)
+    × (schema (schemas F) v ≡ record { bound = n; ranges = map (λ r. columnOf (r .0) (r .1)) rs })
+Computed (Entry.accepted text n) = (F : File) × (fileOf text ≡ Outcome.accepted F) × (candidates F ≡ n)
+Computed (Entry.refused text n l) = fileOf text ≡ Outcome.refused n l
+Computed (Entry.printed text output) = outputOf text ≡ output
 
-pub right : (x : ℕ × Entry) → Computed x → Right (x .1)
+pub right : (x : Entry) → Computed x → Right x
 unfolding Computed Right
-right (m, Entry.looked text s c a shows) (F, e, f) =
+right (Entry.looked text s c a shows) (F, e, f) =
     let g = gives text F e s c a shows f in
     (F, e, g, judges text F e s c a shows g)
-right (m, Entry.viewed text k v rs) (F, e, n, l, r) =
+right (Entry.viewed text k v rs) (F, e, n, l, r) =
     (F, e, (dec-true (ltb-dec _ _) n, dec-true (ltb-dec _ _) l, rw r at (rows-mean F (database F k) v), r))
-right (m, Entry.accepted text n) c = c
-right (m, Entry.refused text n l) c = c
-right (m, Entry.printed text output) c = c
+right (Entry.bounded text v n rs) (F, e, l, r) = (F, e, (dec-true (ltb-dec _ _) l, r))
+right (Entry.accepted text n) c = c
+right (Entry.refused text n l) c = c
+right (Entry.printed text output) c = (c, prints text output c)
+
+-- ---- a list, each element of which has an entry
+
+pub right-all : {A : Type 0} (entry : A → Entry) {xs : List A} → All (λ x. Computed (entry x)) xs → All (λ x. Right (entry x)) xs
+right-all entry cs = all-map (λ x c. right (entry x) c) cs
+
+-- one more
+infixr 5 _&_
+pub _&_ : {A : Type 0} {P : A → Type 0} {x : A} {xs : List A} → P x → All P xs → All P (x ∷ xs)
+p & ps = All.cons p ps

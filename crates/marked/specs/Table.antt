@@ -7,16 +7,19 @@ use Prim.Native.String.{String, [] as no-more, _∷_ as _and-then_}
 use lib.IntN.{ℤ, pos, negℤ}
 use lib.ListN.{length, drop}
 use Rattle.value.specs.Value.{Value}
+use Rattle.range.specs.Ranges.{columnOf}
 use Rattle.meaning.specs.Syntax.{File, Row}
 use Rattle.meaning.specs.Rows.{rows}
 use Rattle.meaning.specs.Algebra.{MeaningOf}
+use Rattle.meaning.specs.Bounds.{schema, schemas}
 use Rattle.meaning.specs.Candidates.{cellCount, candidates, database}
 use Rattle.meaning.specs.Look.{Answer, After, workSize, zeros}
-use Rattle.meaning.specs.Looks.{CaseAt, upTo}
+use Rattle.meaning.specs.Looks.{CaseAt, NoDatabase, upTo}
 use Rattle.rules.specs.Check.{Outcome}
 use Rattle.rules.specs.FileOf.{fileOf}
 use Rattle.look.specs.Looks.{lookOf}
 use Rattle.report.specs.Output.{outputOf}
+use Rattle.report.specs.Lines.{outputRoom, Printed}
 
 -- ---- entries, and what each says
 
@@ -25,6 +28,8 @@ pub data Entry : Type 0 where
   looked : (text : List ℕ) (start count : ℕ) → Answer → (cells : List ℤ) → Entry
   -- the rows of a relation in the database of a candidate, in their order
   viewed : (text : List ℕ) (candidate relation : ℕ) → List (List ℤ) → Entry
+  -- the row bound of a relation, and lo and hi of each of its columns
+  bounded : (text : List ℕ) (relation bound : ℕ) → List (ℤ × ℤ) → Entry
   -- accepted, with its number of candidates
   accepted : (text : List ℕ) (candidates : ℕ) → Entry
   -- refused by a number at a line
@@ -37,22 +42,39 @@ abbrev pub Gives : List ℕ → ℕ → ℕ → Answer → List ℤ → File →
 Gives text start count a cells F = (work inst : List ℤ) → workSize ≤ length work → cellCount F ≤ length inst
     → lookOf text start count work inst ≡ After.after a (zeros work) (cells ++ drop (length cells) inst)
 
--- by the paper's definitions: no candidate from the start up to where the answer stands is a case, and the k of "case k" is one
+-- by the paper's definitions: no candidate from the start up to where the answer stands is a case, the k of "case k" is one, and "no case"
+-- from 0 says that no database is one
 abbrev pub Judges : ℕ → Answer → File → Type 0
-Judges start a F = ((j : ℕ) → start ≤ j → j < upTo F a → ¬ (CaseAt F j)) × ((k : ℕ) → a ≡ Answer.case k → CaseAt F k)
+Judges start a F =
+    ((j : ℕ) → start ≤ j → j < upTo F a → ¬ (CaseAt F j))
+    × ((k : ℕ) → a ≡ Answer.case k → CaseAt F k)
+    × (start ≡ 0 → a ≡ Answer.noCase → NoDatabase F)
+
+-- a relation that is there
+abbrev pub Relation : ℕ → File → Type 0
+Relation v F = v < length (F .tables) + length (F .views)
 
 -- a candidate and a relation that are there: the bag that the algebra gives, and the order of its rows
 abbrev pub Shows : ℕ → ℕ → List Row → File → Type 0
-Shows k v rs F =
-    let d = database F k in
-    (k < candidates F) × (v < length (F .tables) + length (F .views)) × MeaningOf F d v rs × (rows F d v ≡ rs)
+Shows k v rs F = let d = database F k in (k < candidates F) × Relation v F × MeaningOf F d v rs × (rows F d v ≡ rs)
+
+-- a relation that is there: exactly this row bound and exactly these ranges
+abbrev pub Spans : ℕ → ℕ → List (ℤ × ℤ) → File → Type 0
+Spans v n rs F = Relation v F × (schema (schemas F) v ≡ record { bound = n; ranges = map (λ r. columnOf (r .0) (r .1)) rs })
+
+-- what `report::output` gives of a text and a buffer with room, whatever it holds: the lines at its front, their number of bytes, and the
+-- rest as it was
+abbrev pub Prints : List ℕ → List ℕ → Type 0
+Prints text output = (out : List ℕ) (r : ℕ) (out′ : List ℕ) → Printed text out r out′ → outputRoom ≤ length out
+    → (r ≡ length output) × (out′ ≡ output ++ drop (length output) out)
 
 unfoldable pub Right : Entry → Type 0
 Right (looked text start count a cells) = (F : File) × (fileOf text ≡ Outcome.accepted F) × Gives text start count a cells F × Judges start a F
 Right (viewed text k v rs) = (F : File) × (fileOf text ≡ Outcome.accepted F) × Shows k v (map (map Value.number) rs) F
+Right (bounded text v n rs) = (F : File) × (fileOf text ≡ Outcome.accepted F) × Spans v n rs F
 Right (accepted text n) = (F : File) × (fileOf text ≡ Outcome.accepted F) × (candidates F ≡ n)
 Right (refused text n l) = fileOf text ≡ Outcome.refused n l
-Right (printed text output) = outputOf text ≡ output
+Right (printed text output) = (outputOf text ≡ output) × Prints text output
 
 -- ---- texts: each with its file in SQL, where t is relation 0 and v1 is relation 1
 
@@ -110,6 +132,9 @@ table =
     -- "M1 the input above: count 9 from 0 is spent, next 9; count 10 is case 9"
     (1, looked (program "070200") 0 9 (Answer.spent 9) [])
     ∷ (1, looked (program "070200") 0 10 (Answer.case 9) (pos 9 ∷ []))
+    -- from later starts: candidate 10 is a case too, and "no case" from 13, which is N, does not hold for the whole file
+    ∷ (1, looked (program "070200") 10 3 (Answer.case 10) (pos 10 ∷ []))
+    ∷ (1, looked (program "070200") 13 3 Answer.noCase [])
     -- and that input "prints" its two lines
     ∷ (1, printed (program "070200") (lines ("8000000009" ∷ "8100010009" ∷ [])))
     -- "M2 the same with 070201: no case": by the count that reaches N, and by the largest of 64 bits
@@ -125,10 +150,13 @@ table =
     ∷ (4, viewed bags 0 5 ((pos 5 ∷ []) ∷ []))
     -- "M5 negative goal, where true: no case". 2 rows, a from 0 to 3: N is 16
     ∷ (5, looked (selected "0102010000000003" "070101") 0 16 Answer.noCase [])
-    -- "M6 all tables with 0 rows: N = 1, no case"
+    -- "M6 all tables with 0 rows: N = 1, no case", of either sign
     ∷ (6, accepted (selected "0100010000000003" "070100") 1)
     ∷ (6, looked (selected "0100010000000003" "070100") 0 0 (Answer.spent 0) [])
     ∷ (6, looked (selected "0100010000000003" "070100") 0 1 Answer.noCase [])
+    ∷ (6, accepted (selected "0100010000000003" "070101") 1)
+    ∷ (6, looked (selected "0100010000000003" "070101") 0 0 (Answer.spent 0) [])
+    ∷ (6, looked (selected "0100010000000003" "070101") 0 1 Answer.noCase [])
     -- "M7 two rows, keyed column 4..4: no case"
     ∷ (7, looked (selected "0102010100040004" "070100") 0 1 Answer.noCase [])
     -- "M8 members 50 and 51 grouped, having sum > 100: one row"
