@@ -3,3 +3,7 @@
 pub mod Computed
 -- the theorem
 pub mod Marked
+-- the theorem on the samples
+pub mod Samples
+-- misreadings of document 01
+pub mod Misreadings

@@ -1,2 +1,4 @@
 -- What a reader must believe of the marked examples.
 pub mod Table
+-- more of the same, for every operation of the bounds and every token
+pub mod Samples
