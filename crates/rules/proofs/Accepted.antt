@@ -18,12 +18,12 @@ use Rattle.meaning.specs.Bounds.{Schema, viewSchema, ordered, earlier, sameWidt
 use Rattle.meaning.specs.Candidates.{candidates}
 use Rattle.meaning.proofs.Elements.{all-given}
 use Rattle.meaning.proofs.Readers.{Byte}
-use Rattle.rules.specs.Draft.{Draft, Item, empty, added}
+use Rattle.rules.specs.Draft.{Draft, Item, empty, added, fileAt}
 use Rattle.rules.specs.Check.{Outcome, candidateLimit, finished, checkFrames, checkAll}
 use Rattle.rules.specs.Legal.{LegalTable, LegalKey, LegalView, EveryView, Legal}
 use Rattle.rules.specs.Written.{tableBytes, keyBytes, viewBytes, goalBytes, fileFrames}
 use Rattle.rules.proofs.FairFrames.{all-true}
-use Rattle.rules.proofs.Folds.{first-taken, none-left, fold-kept, fileAt, Ended, finished-file, Kept, kept-empty, Obeys, kept-step}
+use Rattle.rules.proofs.Folds.{first-taken, none-left, fold-kept, Ended, finished-file, Kept, kept-empty, Obeys, kept-step}
 use Rattle.rules.proofs.Steps.{ViewRules, Lawful, Taken, step-bytes}
 use Rattle.rules.proofs.Turns.{itemBytes, Turn}
 

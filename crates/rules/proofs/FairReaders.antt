@@ -21,6 +21,10 @@ pub data Good {A : Type 0} (W : List ℕ → Type 0) (P : A → Type 0) : Read A
   ok : {a : A} {rest : List ℕ} → W rest → P a → Good W P (Read.ok a rest)
   refusal : {n : ℕ} → Limits 4 6 n → Good W P (Read.refused n)
 
+pub refused-limits : {A : Type 0} {W : List ℕ → Type 0} {P : A → Type 0} {m : Read A} {n : ℕ} → Good W P m → m ≡ Read.refused n → Limits 4 6 n
+refused-limits (Good.ok w p) e = let z : _≡_ {A = ℕ} 0 1 = cc in absurd (omega arith)
+refused-limits {n = n} (Good.refusal {n = k} l) e = let p : k ≡ n = cc in omega arith
+
 pub record Fair {A : Type 0} (W : List ℕ → Type 0) (r : Reader A) (P : A → Type 0) : Type 0 where
   pub good : (bs : List ℕ) → Good W P (r bs)
 

@@ -20,7 +20,7 @@ use Rattle.meaning.specs.Bounds.{Schema, tableSchema, viewSchema}
 use Rattle.meaning.specs.Candidates.{candidates}
 use Rattle.meaning.proofs.Elements.{all-append}
 use Rattle.meaning.proofs.Stacks.{length-snoc}
-use Rattle.rules.specs.Draft.{Draft, Item, empty, added, relationCount, schemasOf}
+use Rattle.rules.specs.Draft.{Draft, Item, empty, added, fileAt, relationCount, schemasOf}
 use Rattle.rules.specs.Check.{Outcome, Checked, candidateLimit, finished, onward, checkFrames}
 use Rattle.rules.specs.Legal.{NamesView, EveryView}
 use Rattle.rules.proofs.Steps.{Taken, Looked, looked}
@@ -31,7 +31,7 @@ use Rattle.rules.proofs.Turns.{Turn}
 module _ {d : Draft} {f : List ℕ} where
   onward-accepted : {c : Checked} (more : Draft → Outcome) (l : ℕ) (F : File) → Looked d f c → onward more l c ≡ Outcome.accepted F
       → (i : Item) × Taken d f i × (more (added d i) ≡ Outcome.accepted F)
-  onward-accepted more l F (Looked.fault h) e = let z : _≡_ {A = ℕ} 0 1 = cc in absurd (omega arith)
+  onward-accepted more l F (Looked.fault h k) e = let z : _≡_ {A = ℕ} 0 1 = cc in absurd (omega arith)
   onward-accepted more l F (Looked.next {i} t) e = (i, t, e)
 
 -- the first frame is taken, and the others go on from there
@@ -53,9 +53,6 @@ fold-kept Q Inv step (f ∷ fs) d l F (All.cons q qs) inv a =
     fold-kept Q Inv step fs (added d i) (suc l) F qs (step d f i q t inv) more
 
 -- ---- the file at the end
-
-abbrev pub fileAt : Draft → Goal → File
-fileAt d g = record { tables = d .tables; keys = d .keys; views = d .views; goal = g }
 
 pub record Ended (d : Draft) (F : File) : Type 0 where
   pub goal : Goal

@@ -15,6 +15,7 @@ pub mod Accepted
 pub mod LegalAccepted
 pub mod LegalBytes
 pub mod TextLaws
+pub mod RefutedChecks
 pub mod Examples
 -- relations as the arrays hold them
 pub mod CatalogLaws

@@ -29,7 +29,7 @@ use Rattle.value.proofs.Values.{all-map}
 use Rattle.value.proofs.Places.{getD-all}
 use Rattle.meaning.proofs.Readers.{Byte}
 use Rattle.bounds.specs.Catalog.{widthAt}
-use Rattle.rules.specs.Draft.{Draft, Item, empty, added, relationCount, stage}
+use Rattle.rules.specs.Draft.{Draft, Item, empty, added, fileAt, relationCount, stage}
 use Rattle.rules.specs.Check.{Outcome, Checked, candidateLimit, checkFrame, finished, onward, checkFrames}
 use Rattle.rules.specs.FileOf.{outcomeOf, fileOf}
 use Rattle.rules.specs.Legal.{LegalColumn, LegalTable, LegalKey, LegalView}
@@ -43,7 +43,7 @@ use Rattle.rules.proofs.Accepted.{LegalDraft, lawful-obeys, draftFrames
 use Rattle.rules.proofs.CatalogLaws.{length-ranges}
 use Rattle.rules.proofs.EntryLaws.{none-entered}
 use Rattle.rules.proofs.FitLaws.{fits-empty}
-use Rattle.rules.proofs.Folds.{fileAt, kept-empty, kept-step}
+use Rattle.rules.proofs.Folds.{kept-empty, kept-step}
 use Rattle.rules.proofs.SoundFrames.{regroup}
 use Rattle.rules.proofs.StandingLaws.{stands-empty}
 use Rattle.rules.proofs.Steps.{Taken, Looked, looked, step-bytes}
@@ -71,7 +71,7 @@ pub record Written (d : Draft) (fs : List (List ℕ)) : Type 0 where
 
 came-on : {d : Draft} {f : List ℕ} {c : Checked} (further : Draft → Reached) (l : ℕ) (e : Draft) → Looked d f c → goneOn further l c ≡ Reached.came e
     → (i : Item) × Taken d f i × (further (added d i) ≡ Reached.came e)
-came-on further l e (Looked.fault h) q = let z : _≡_ {A = ℕ} 0 1 = cc in absurd (omega arith)
+came-on further l e (Looked.fault h k) q = let z : _≡_ {A = ℕ} 0 1 = cc in absurd (omega arith)
 came-on further l e (Looked.next {i} t) q = (i, t, q)
 
 written-on : (d : Draft) (f : List ℕ) (i : Item) (before : List (List ℕ)) → All Byte f → Written d before → Taken d f i → Written (added d i) (before ++ (f ∷ []))

@@ -28,7 +28,7 @@ stepAt n s = record { fault = n; state = s }
 -- ---- what a frame that is taken adds
 
 taken-of : {d : Draft} {f : List ℕ} {c : Checked} {e : Draft} → Looked d f c → c ≡ Checked.next e → (i : Item) × Taken d f i × (added d i ≡ e)
-taken-of (Looked.fault l) q = let z : _≡_ {A = ℕ} 0 1 = cc in absurd (omega arith)
+taken-of (Looked.fault l h) q = let z : _≡_ {A = ℕ} 0 1 = cc in absurd (omega arith)
 taken-of (Looked.next {i} t) q = (i, t, cc)
 
 reads-same : (d : Draft) (k j : ℕ) (bs cs : List ℕ) (m : Read Item) → k ∷ bs ≡ j ∷ cs → frame d j cs ≡ m → frame d k bs ≡ m

@@ -1,11 +1,11 @@
 -- One frame: which frames a draft takes, and what it is afterwards.
 --     Lawful d i     the item i is legal for the draft d
 --     step-back      the frame of a lawful item, in order and with room for it, is taken
---     looked         a frame is taken, for an item whose turn it is, or refused by a number from 3 to 9
+--     looked         a frame is taken, for an item whose turn it is, or refused by its fault, a number from 3 to 9
 --     step-bytes     a frame of bytes that is taken is the frame of a lawful item
 -- Assumes nothing.
 use mathlib.Core.Path.{_≡_, refl, ap, subst, _∙_}
-use mathlib.Core.Bool.{Bool, true, false, cond}
+use mathlib.Core.Bool.{true}
 use mathlib.Core.List.{List, [], _∷_, append-nil}
 use mathlib.Core.Logic.{_⊎_, inl, inr, ⊎-elim}
 use Prim.Native.Nat.{ℕ, _≤_}
@@ -23,31 +23,14 @@ use Rattle.meaning.proofs.Readers.{Byte}
 use Rattle.rules.specs.Draft.{Draft, Item, added, relationCount, schemasOf, stage, stageOf, inOrder, hasRoom}
 use Rattle.rules.specs.Frames.{frame, exactlyKey, wholeFault}
 use Rattle.rules.specs.Check.{Checked, checkFrame, readChecked}
+use Rattle.rules.specs.Refused.{Due, FirstBroken, Fault, Sound}
 use Rattle.rules.specs.Legal.{Limits, LegalTable, LegalKey, tableAt, LegalView, NamesView}
 use Rattle.rules.specs.Written.{tableBytes, keyBytes, viewBytes, goalBytes}
-use Rattle.rules.proofs.FairReaders.{Good, Nil, four, five}
+use Rattle.rules.proofs.FairReaders.{Good, Nil, refused-limits}
 use Rattle.rules.proofs.FairFrames.{Well, fair-frame}
 use Rattle.rules.proofs.FramesBack.{table-back, key-back, basic-back, grouped-back, set-back, goal-back}
 use Rattle.rules.proofs.SoundFrames.{Fields, sound-frame}
 use Rattle.rules.proofs.Turns.{itemStage, itemBytes, Turn, roomAt, stage-known, turn}
-
--- the first rule on views that is broken
-abbrev viewFault : Bool → Bool → Bool → Bool → ℕ
-viewFault a b c e = cond a (cond b (cond c (cond e 0 9) 8) 7) 6
-
-abbrev keyFault : Bool → ℕ
-keyFault a = cond a 0 6
-
-four-tests : (a b c e : Bool) → ((a ≡ true) × (b ≡ true) × (c ≡ true) × (e ≡ true)) ⊎ Limits 3 9 (viewFault a b c e)
-four-tests true true true true = inl (refl, refl, refl, refl)
-four-tests true true true false = inr (omega arith)
-four-tests true true false e = inr (omega arith)
-four-tests true false c e = inr (omega arith)
-four-tests false b c e = inr (omega arith)
-
-one-test : (a : Bool) → (a ≡ true) ⊎ Limits 3 9 (keyFault a)
-one-test true = inl refl
-one-test false = inr (omega arith)
 
 -- over the schemas of the relations before
 pub record ViewRules (ss : List Schema) (q : View) : Type 0 where
@@ -71,13 +54,17 @@ module _ (d : Draft) where
   Whole (Item.view q) = ViewRules (schemasOf d) q
   Whole (Item.goal g) = Unit {0}
 
-  whole-cases : (i : Item) → Whole i ⊎ Limits 3 9 (wholeFault d i)
+  whole-cases : (i : Item) → Whole i ⊎ FirstBroken d i (wholeFault d i)
   whole-cases (Item.table t) = inl tt
-  whole-cases (Item.key k) = one-test _
+  whole-cases (Item.key k) = by-test (exactlyKey 0 (tableAt (d .tables) (k .parent) .key) (k .pairs)) inl (λ a. inr (rw a (FirstBroken.pairing a)))
   whole-cases (Item.view q) =
       let ss = schemasOf d in
-      ⊎-elim (λ t. inl (record { width = t .0; aggregates = t .1; bound = t .2; ranges = t .3 })) (λ l. inr l)
-      (four-tests (sameWidth ss q) (aggregatesFit ss q) (bounded ss q) (rangesFit ss q))
+      by-test (sameWidth ss q) (λ a. by-test (aggregatesFit ss q) (λ b. by-test (bounded ss q) (λ c. by-test (rangesFit ss q)
+      (λ e. inl (record { width = a; aggregates = b; bound = c; ranges = e }))
+      (λ e. inr (rw (a, b, c, e) (FirstBroken.ranges a b c e))))
+      (λ c. inr (rw (a, b, c) (FirstBroken.bound a b c))))
+      (λ b. inr (rw (a, b) (FirstBroken.aggregates a b))))
+      (λ a. inr (rw a (FirstBroken.columns a)))
   whole-cases (Item.goal g) = inl tt
 
   pub whole-zero : (i : Item) → Whole i → wholeFault d i ≡ 0
@@ -85,6 +72,24 @@ module _ (d : Draft) where
   whole-zero (Item.key k) h = rw h
   whole-zero (Item.view q) h = rw (h .width, h .aggregates, h .bound, h .ranges)
   whole-zero (Item.goal g) h = refl
+
+  -- the first rule that is broken, as the checker finds it
+  broken-fault : {i : Item} {n : ℕ} → FirstBroken d i n → wholeFault d i ≡ n
+  broken-fault (FirstBroken.pairing a) = rw a
+  broken-fault (FirstBroken.columns a) = rw a
+  broken-fault (FirstBroken.aggregates a b) = rw (a, b)
+  broken-fault (FirstBroken.bound a b c) = rw (a, b, c)
+  broken-fault (FirstBroken.ranges a b c e) = rw (a, b, c, e)
+
+  broken-limits : {i : Item} {n : ℕ} → FirstBroken d i n → Limits 6 9 n
+  broken-limits (FirstBroken.pairing a) = omega arith
+  broken-limits (FirstBroken.columns a) = omega arith
+  broken-limits (FirstBroken.aggregates a b) = omega arith
+  broken-limits (FirstBroken.bound a b c) = omega arith
+  broken-limits (FirstBroken.ranges a b c e) = omega arith
+
+  none-broken : (i : Item) → Whole i → (n : ℕ) → FirstBroken d i n → ⊥
+  none-broken i h n b = omega (arith, whole-zero i h, broken-fault b, broken-limits b)
 
   lawful-whole : (i : Item) → Lawful i → Whole i
   lawful-whole (Item.table t) h = tt
@@ -124,45 +129,69 @@ module _ (d : Draft) where
     pub bytes : List ℕ
     pub cut : f ≡ kind ∷ bytes
     pub known : 1 ≤ stageOf kind
+    pub sound : Sound d f (added d i)
     pub reads : frame d kind bytes ≡ Read.ok i []
     pub turn : Turn d i
     pub well : Well d i
     pub whole : Whole i
 
+  -- an empty frame has a number, but no fault: no text has one
   pub data Looked (f : List ℕ) : Checked → Type 0 where
-    fault : {n : ℕ} → Limits 3 9 n → Looked f (Checked.fault n)
+    fault : {n : ℕ} → Limits 3 9 n → (1 ≤ length f → Fault d f n) → Looked f (Checked.fault n)
     next : {i : Item} → Taken f i → Looked f (Checked.next (added d i))
 
-  fault-limits : {n : ℕ} → Limits 4 6 n → Limits 3 9 n
-  fault-limits l = omega arith
+  pub fault-limits : {f : List ℕ} {n : ℕ} → Fault d f n → Limits 3 9 n
+  fault-limits (Fault.kind o) = omega arith
+  fault-limits (Fault.room o r) = omega arith
+  fault-limits (Fault.bytes {k} {n} {bs} u e) = omega (arith, refused-limits (fair-frame d k (stage-known d k (u .order)) .good bs) e)
+  fault-limits (Fault.whole u e b) = omega (arith, broken-limits b)
 
-  module _ (k : ℕ) (bs : List ℕ) (o : inOrder d k ≡ true) (r : hasRoom d k ≡ true) where
+  faulty : {f : List ℕ} {n : ℕ} → Fault d f n → Looked f (Checked.fault n)
+  faulty h = Looked.fault (fault-limits h) (λ _. h)
+
+  module _ (k : ℕ) (bs : List ℕ) (u : Due d k) where
     looked-read : (m : Read Item) → frame d k bs ≡ m → Good Nil (λ i. (stageOf k ≡ itemStage i) × Well d i) m → Looked (k ∷ bs) (readChecked d m)
     looked-read (Read.ok i rest) e (Good.ok left p) =
+        let reads : frame d k bs ≡ Read.ok i [] = e ∙ ap (Read.ok i) left in
         ⊎-elim
         (λ h. rw (whole-zero i h) (Looked.next (record {
           kind = k;
           bytes = bs;
           cut = refl;
-          known = stage-known d k o;
-          reads = e ∙ ap (Read.ok i) left;
-          turn = turn d i (stageOf k) (p .0) o r;
+          known = stage-known d k (u .order);
+          sound = Sound.adds u reads (none-broken i h);
+          reads = reads;
+          turn = turn d i (stageOf k) (p .0) (u .order) (u .room);
           well = p .1;
           whole = h;
         })))
-        (λ l. rw (ne-eqb (wholeFault d i) 0 (λ z. omega arith)) (Looked.fault l))
+        (λ b. rw (ne-eqb (wholeFault d i) 0 (λ z. omega (arith, broken-limits b))) (faulty (Fault.whole u reads b)))
         (whole-cases i)
-    looked-read (Read.refused n) e (Good.refusal l) = Looked.fault (fault-limits l)
+    looked-read (Read.refused n) e g = faulty (Fault.bytes u e)
 
   pub looked : (f : List ℕ) → Looked f (checkFrame d f)
   unfolding checkFrame
-  looked [] = Looked.fault (fault-limits four)
+  looked [] = Looked.fault {n = 4} (omega arith) (λ h. absurd (omega arith))
   looked (k ∷ bs) =
       by-test (inOrder d k)
       (λ o. by-test (hasRoom d k)
-      (λ r. rw (o, r) (looked-read k bs o r (frame d k bs) refl (fair-frame d k (stage-known d k o) .good bs)))
-      (λ r. rw (o, r) (Looked.fault (fault-limits five))))
-      (λ o. rw o (Looked.fault {n = 3} (omega arith)))
+      (λ r. rw (o, r) (looked-read k bs (record { order = o; room = r }) (frame d k bs) refl (fair-frame d k (stage-known d k o) .good bs)))
+      (λ r. rw (o, r) (faulty (Fault.room o r))))
+      (λ o. rw o (faulty (Fault.kind o)))
+
+  -- the checker's answer to a frame is its fault, or what it adds
+  pub fault-checked : {f : List ℕ} {n : ℕ} → Fault d f n → checkFrame d f ≡ Checked.fault n
+  unfolding checkFrame
+  fault-checked (Fault.kind o) = rw o
+  fault-checked (Fault.room o r) = rw (o, r)
+  fault-checked (Fault.bytes u e) = rw (u .order, u .room, e)
+  fault-checked (Fault.whole {n = n} u e b) = rw (u .order, u .room, e, broken-fault b, ne-eqb n 0 (λ z. omega (arith, broken-limits b)))
+
+  pub sound-checked : {f : List ℕ} {e : Draft} → Sound d f e → checkFrame d f ≡ Checked.next e
+  unfolding checkFrame
+  sound-checked (Sound.adds {i = i} u e h) =
+      let z : wholeFault d i ≡ 0 = ⊎-elim (whole-zero i) (λ b. absurd (h (wholeFault d i) b)) (whole-cases i) in
+      rw (u .order, u .room, e, z)
 
   pub step-bytes : (f : List ℕ) (i : Item) → All Byte f → Taken f i → (f ≡ itemBytes i) × Lawful i
   step-bytes f i all t =

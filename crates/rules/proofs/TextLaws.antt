@@ -1,8 +1,12 @@
--- Texts and files: the text of a file is accepted as that file, an accepted text is the text of its file, and a refusal has one of the
--- numbers 1 to 10. Assumes nothing.
-use mathlib.Core.Path.{_≡_, refl, ap, _∙_}
+-- Texts and files.
+--     text-accepted    the text of a file within the limits is accepted as that file
+--     accepted-text    an accepted text is the text of its file, which is within the limits
+--     accepted-when    both: the accepted texts are exactly those of the files within the limits
+-- Assumes nothing.
+use mathlib.Core.Path.{_≡_, refl, ap, subst, _∙_}
 use mathlib.Core.Bool.{true}
 use mathlib.Core.List.{List, [], _∷_, _++_, map}
+use mathlib.Core.Logic.{_↔_}
 use Prim.Native.Nat.{ℕ, _+_, _*_, _≤_}
 use native.Mathlib.Omega.{arith}
 use lib.ListN.{length, length-append}
@@ -83,6 +87,7 @@ text-accepted F l s =
 pub record Accepts (text : List ℕ) (F : File) : Type 0 where
   pub written : text ≡ fileText F
   pub legal : Legal F
+  pub short : Short F
   pub well-formed : wellFormed F ≡ true
 
 pub accepted-text : (text : List ℕ) (F : File) → fileOf text ≡ Outcome.accepted F → Accepts text F
@@ -93,9 +98,15 @@ accepted-text text F e = go (framesOf text) refl e
     go (Lines.frames fs) p e =
         let (t, good) = only-such text fs p in
         let bytes : All (All Byte) fs = all-map (λ f h. h .bytes) good in
+        let same : fs ≡ fileFrames F = accepted-written fs F bytes e in
         record {
-          written = t ∙ ap textOf (accepted-written fs F bytes e);
+          written = t ∙ ap textOf same;
           legal = accepted-legal fs F bytes e;
+          short = record { frames = subst (All (λ f. length f ≤ 120)) same (all-map (λ f h. h .few) good) };
           well-formed = accepted-wellFormed fs F e;
         }
     go (Lines.refused n k) p e = let z : _≡_ {A = ℕ} 0 1 = cc in absurd (omega arith)
+
+pub accepted-when : (text : List ℕ) (F : File) → (fileOf text ≡ Outcome.accepted F) ↔ ((text ≡ fileText F) × Legal F × Short F)
+accepted-when text F =
+    (λ e. let h = accepted-text text F e in (h .written, h .legal, h .short), λ h. ap fileOf (h .0) ∙ text-accepted F (h .1) (h .2))

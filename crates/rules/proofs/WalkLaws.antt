@@ -73,7 +73,7 @@ pub record Left (packed : List ℕ) (s : State) (shape : List ℕ) (ends : List 
 
 -- a draft with no fault goes on
 next-of : {d : Draft} {f : List ℕ} {c : Checked} → Looked d f c → checkedFault c ≡ 0 → (e : Draft) × (c ≡ Checked.next e)
-next-of (Looked.fault l) z = absurd (omega arith)
+next-of (Looked.fault l h) z = absurd (omega arith)
 next-of (Looked.next {i} t) z = (_, refl)
 
 fault-of : (c : Checked) {n : ℕ} → n ≡ checkedFault c → (n ≡ 0 → ⊥) → c ≡ Checked.fault n

@@ -1,6 +1,6 @@
 -- `checkAll`: frames in turn, to the refusal of the first wrong one with its line, or to the file. Assumes nothing: these are definitions,
 -- and they compute.
-use mathlib.Core.Bool.{Bool, cond}
+use mathlib.Core.Bool.{cond}
 use mathlib.Core.List.{List, [], _∷_}
 use mathlib.Core.Option.{Option, none, some}
 use Prim.Native.Nat.{ℕ, suc, _^_}
@@ -8,7 +8,7 @@ use lib.Dec.{leb, eqb}
 use Rattle.meaning.specs.Syntax.{Goal, File}
 use Rattle.meaning.specs.Reading.{Read}
 use Rattle.meaning.specs.Candidates.{candidates}
-use Rattle.rules.specs.Draft.{Draft, Item, empty, added, inOrder, hasRoom}
+use Rattle.rules.specs.Draft.{Draft, Item, empty, added, fileAt, inOrder, hasRoom}
 use Rattle.rules.specs.Frames.{frame, wholeFault}
 
 -- a refusal with its line, or the file
@@ -43,9 +43,7 @@ candidateLimit = 2 ^ 24
 -- "then 3 for no goal, 10"
 abbrev pub finished : Draft → Option Goal → Outcome
 finished d none = Outcome.refused 3 0
-finished d (some g) =
-    let F : File = record { tables = d .tables; keys = d .keys; views = d .views; goal = g } in
-    cond (leb (candidates F) candidateLimit) (Outcome.accepted F) (Outcome.refused 10 0)
+finished d (some g) = cond (leb (candidates (fileAt d g)) candidateLimit) (Outcome.accepted (fileAt d g)) (Outcome.refused 10 0)
 
 -- "frames in turn", each with its line
 abbrev pub onward : (Draft → Outcome) → ℕ → Checked → Outcome

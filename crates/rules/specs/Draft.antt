@@ -18,6 +18,10 @@ pub record Draft : Type 0 where
 abbrev pub empty : Draft
 empty = record { tables = []; keys = []; views = []; goal = none }
 
+-- the file of a draft, once there is a goal
+abbrev pub fileAt : Draft → Goal → File
+fileAt d g = record { tables = d .tables; keys = d .keys; views = d .views; goal = g }
+
 -- what a frame adds
 pub data Item : Type 0 where
   table : Table → Item

@@ -1,6 +1,5 @@
 -- `Legal`: what document 01 asks of a rule file, apart from its bytes. `Short`, that its frames fit their lines, is apart, because a text
--- has lines and a file has none. `Refusal`: the numbers and lines of refusals that frames can have. Assumes nothing: these are
--- definitions.
+-- has lines and a file has none. Assumes nothing: these are definitions.
 use mathlib.Core.Path.{_≡_}
 use mathlib.Core.Bool.{true}
 use mathlib.Core.List.{List, [], _∷_, _++_, map}
@@ -158,12 +157,3 @@ pub record Legal (F : File) : Type 0 where
 -- "1 to 120 frame bytes a line": no frame of a file is empty
 pub record Short (F : File) : Type 0 where
   pub frames : All (λ f. length f ≤ 120) (fileFrames F)
-
--- ---- refusals
-
--- number n and line l, where so many frames are checked: "The writer's frames (line): 3 .. 9", "no goal at the end (line 0)", "10, N too
--- large"
-pub data Refusal (frames : ℕ) : ℕ → ℕ → Type 0 where
-  inFrame : {n l : ℕ} → Limits 3 9 n → Limits 1 frames l → Refusal frames n l
-  noGoal : Refusal frames 3 0
-  tooMany : Refusal frames 10 0

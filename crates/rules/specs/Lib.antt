@@ -5,6 +5,7 @@ pub mod Check
 pub mod Written
 pub mod FileOf
 pub mod Legal
+pub mod Refused
 -- what the code's numbers and arrays stand for
 pub mod Faults
 pub mod Catalogued
