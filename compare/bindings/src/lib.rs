@@ -2,11 +2,14 @@
 //!
 //! The functions of the library take plain numbers and slices as a pointer and a length, and have
 //! no precondition: any text, any lengths, any start and any count are answered. Rust's slices have
-//! all that C must see to: their pointers are never null, and lent buffers do not overlap. So the
-//! wrapper has nothing to test.
+//! all that C must see to: they are as long as they say, and lent buffers do not overlap. So the
+//! wrapper has nothing to test. A call needs [`STACK`] bytes of stack.
 
 /// The work area of an accepted look has at least this many numbers.
 pub const WORK: usize = 9216;
+
+/// A thread with a stack of this many bytes can make any call.
+pub const STACK: usize = 131_072;
 
 /// A refusal of document 01: its number, and the line from 1, or 0 where none is said.
 #[derive(Clone, Copy, Debug, PartialEq, Eq)]
@@ -29,10 +32,10 @@ pub enum Answer {
 }
 
 // The numbers of the answers, as in include/sakthveim.h.
-const SPENT: u32 = 0x00;
-const CASE: u32 = 0x80;
-const NO_CASE: u32 = 0x82;
-const REFUSED: u32 = 0x8f;
+const SPENT: u8 = 0x00;
+const CASE: u8 = 0x80;
+const NO_CASE: u8 = 0x82;
+const REFUSED: u8 = 0x8f;
 
 extern "C" {
     fn sakthveim_check(text: *const u8, text_length: usize) -> u32;
@@ -45,20 +48,24 @@ extern "C" {
         work_length: usize,
         instance: *mut i16,
         instance_length: usize,
-        values: *mut u64,
-        values_length: usize,
-    ) -> u32;
+    ) -> u64;
+}
+
+/// The refusal in what a refused check or look returns: the line in the lowest 16 bits, and the
+/// number above them.
+fn refusal(answer: u64) -> Refusal {
+    Refusal {
+        number: (answer >> 16) as u8,
+        line: answer as u16,
+    }
 }
 
 /// Whether a text is a rule file that meets none of the refusals 1 to 10.
 pub fn check(text: &[u8]) -> Result<(), Refusal> {
     // The library reads `text_length` bytes from `text` and keeps nothing.
-    let answer = unsafe { sakthveim_check(text.as_ptr(), text.len()) };
-    let (number, line) = ((answer >> 16) as u8, answer as u16);
-    if number == 0 {
-        Ok(())
-    } else {
-        Err(Refusal { number, line })
+    match unsafe { sakthveim_check(text.as_ptr(), text.len()) } {
+        0 => Ok(()),
+        answer => Err(refusal(answer.into())),
     }
 }
 
@@ -69,8 +76,7 @@ pub fn check(text: &[u8]) -> Result<(), Refusal> {
 /// `instance` has at least as many numbers as the tables have cells; only a case changes it, and
 /// only where its cells stand. Other lengths are refused, and a refused look changes no buffer.
 pub fn look(text: &[u8], start: u64, count: u64, work: &mut [i32], instance: &mut [i16]) -> Answer {
-    let mut values = [0; 2];
-    // The library reads the text, writes within the three buffers, and keeps nothing.
+    // The library reads the text, writes within the two buffers, and keeps nothing.
     let answer = unsafe {
         sakthveim_look(
             text.as_ptr(),
@@ -81,18 +87,14 @@ pub fn look(text: &[u8], start: u64, count: u64, work: &mut [i32], instance: &mu
             work.len(),
             instance.as_mut_ptr(),
             instance.len(),
-            values.as_mut_ptr(),
-            values.len(),
         )
     };
-    match answer {
-        SPENT => Answer::Spent(values[0]),
-        CASE => Answer::Case(values[0]),
+    let value = answer & ((1 << 56) - 1);
+    match (answer >> 56) as u8 {
+        SPENT => Answer::Spent(value),
+        CASE => Answer::Case(value),
         NO_CASE => Answer::NoCase,
-        REFUSED => Answer::Refused(Refusal {
-            number: values[0] as u8,
-            line: values[1] as u16,
-        }),
+        REFUSED => Answer::Refused(refusal(value)),
         other => unreachable!("answer {other:#x}"),
     }
 }

@@ -218,3 +218,16 @@ fn a_read_that_fails() {
     assert_eq!(printed, b"");
     assert_eq!(said, "generate: the input cannot be read\n");
 }
+
+/// The program needs less than this many KiB of stack, what the system puts there included.
+const STACK: usize = 256;
+
+/// The files whose conditions and expressions nest the deepest.
+#[test]
+fn deepest_files() {
+    for (name, text) in gen::deepest().into_iter().chain(gen::deepest_refused()) {
+        let shown = |answer: &[u8]| String::from_utf8_lossy(answer).into_owned();
+        let found = generate::answer_with_stack(&text, STACK);
+        assert_eq!(shown(&found), shown(&report(&text)), "{name}");
+    }
+}

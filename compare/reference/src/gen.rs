@@ -1,11 +1,13 @@
 //! Random files that are accepted, and damaged texts. The same seed gives the same result.
 
 mod damage;
+mod deepest;
 mod draft;
 mod express;
 mod spoil;
 
 pub use damage::{damage, damage_of_kind, every_byte_change, every_limit, Kind, KINDS};
+pub use deepest::{deepest, deepest_refused};
 
 use crate::check;
 use crate::look::WORK;

@@ -1,44 +1,61 @@
--- The answers of a plan and of a look. Assumes nothing.
-use mathlib.Core.Path.{_≡_, refl, ap₂, subst}
-use mathlib.Core.List.{List, [], _∷_}
-use Prim.Native.Nat.{ℕ, _+_, _*_}
+-- The answers of a plan and of a look, and what a caller reads from them. Assumes nothing.
+use mathlib.Core.Path.{_≡_, refl, sym, ap, ap₂, _∙_}
+use mathlib.Core.List.{List}
+use Prim.Native.Nat.{ℕ, _+_, _*_, _/_, _%_, _<_}
+use native.Mathlib.Omega.{arith}
 use lib.IntN.{ℤ}
-use lib.ListN.{set}
-use Rattle.meaning.specs.Look.{After}
+use Rattle.meaning.specs.Look.{Answer, After, answerIn, workIn, instIn}
 use Rattle.rules.specs.Check.{Outcome}
 use Rattle.rules.specs.Plans.{Plans}
 use Rattle.rules.specs.declared.plan.Plan.{Plan}
-use Rattle.look.specs.Looks.{answerOf}
+use Rattle.look.specs.Looks.{answerOf, lookOf}
 use Rattle.look.specs.declared.Answer.{Answer as Answered}
-use Rattle.look.specs.declared.Answer.the-variants.{Case, Spent, Refused}
-use Rattle.export.specs.Answers.{checkAnswer, overlay, Tells, Looks}
+use Rattle.look.specs.declared.Answer.the-variants.{Case, NoCase, Spent, Refused}
+use Rattle.look.proofs.RealLooks.{refused-unchanged}
+use Rattle.export.specs.Answers.{checkAnswer, payloadCount, lookAnswer, Looks}
+
+-- ---- a check
 
 pub answer-of : (o : Outcome) (p : Plan) → Plans o p → p .number * 65536 + p .line ≡ checkAnswer o
 answer-of (Outcome.refused n line) p h = ap₂ (λ a b. a * 65536 + b) (h .0) (h .1)
 answer-of (Outcome.accepted F) p h = ap₂ (λ a b. a * 65536 + b) (h .number) (h .line)
 
--- ---- values at the front
+-- ---- a look
 
-one-put : (values : List ℕ) (x : ℕ) → set values 0 x ≡ overlay (x ∷ []) values
-one-put [] x = refl
-one-put (v ∷ values) x = refl
+module _ {a : Answered} where
+  pub told-case : {k : ℕ} → a ≡ Case k → 0x80 * payloadCount + k % payloadCount ≡ lookAnswer (answerOf a)
+  unfolding lookAnswer
+  told-case {k} e = rw e
 
-two-put : (values : List ℕ) (x y : ℕ) → set (set values 0 x) 1 y ≡ overlay (x ∷ y ∷ []) values
-two-put [] x y = refl
-two-put (v ∷ []) x y = refl
-two-put (v ∷ w ∷ values) x y = refl
+  pub told-none : a ≡ NoCase → 0x82 * payloadCount ≡ lookAnswer (answerOf a)
+  unfolding lookAnswer
+  told-none e = rw e
 
-module _ {a : Answered} {values values₁ : List ℕ} where
-  pub tells-case : {k : ℕ} → a ≡ Case k → values₁ ≡ set values 0 k → Tells a values 0x80 values₁
-  tells-case {k} e p = rw (e, p) (record { number = refl; values-are = one-put values k })
+  pub told-spent : {next : ℕ} → a ≡ Spent next → next % payloadCount ≡ lookAnswer (answerOf a)
+  unfolding lookAnswer
+  told-spent {next} e = rw e (omega arith)
 
-  pub tells-spent : {next : ℕ} → a ≡ Spent next → values₁ ≡ set values 0 next → Tells a values 0 values₁
-  tells-spent {next} e p = rw (e, p) (record { number = refl; values-are = one-put values next })
+  pub told-refused : {n l : ℕ} → a ≡ Refused n l → n < 256 → l < 65536 → 0x8f * payloadCount + (n * 65536 + l) ≡ lookAnswer (answerOf a)
+  unfolding lookAnswer
+  told-refused {n} {l} e p q = rw e (omega arith)
 
-  pub tells-refused : {n l : ℕ} {values₂ : List ℕ} → a ≡ Refused n l → values₁ ≡ set values 0 n → values₂ ≡ set values₁ 1 l → Tells a values 0x8f values₂
-  tells-refused {n} {l} e p q = rw (e, q, p) (record { number = refl; values-are = two-put values n l })
+-- the number of an answer is in the upper bits
+number-of : (a : Answer) → lookAnswer a / payloadCount ≡ 0x8f → (n : ℕ) × (l : ℕ) × (a ≡ Answer.refused n l)
+unfolding lookAnswer
+number-of (Answer.case k) e = absurd (omega arith)
+number-of Answer.noCase e = absurd (omega arith)
+number-of (Answer.spent next) e = absurd (omega arith)
+number-of (Answer.refused n l) e = (n, l, refl)
 
-pub told-look : {a : Answered} {values values′ : List ℕ} {r : ℕ} {work inst : List ℤ} {x : After} → After.after (answerOf a) work inst ≡ x → Tells a values r values′
-    → Looks x values r work inst values′
-told-look {a} {values} {values′} {r} {work} {inst} e t =
-    subst (λ x. Looks x values r work inst values′) e (t .number, refl, refl, t .values-are)
+-- what the look gave, told as a number
+pub told-look : (text : List ℕ) (start count : ℕ) (work inst : List ℤ) {a : Answer} {r : ℕ} {work′ inst′ : List ℤ}
+    → After.after a work′ inst′ ≡ lookOf text start count work inst → r ≡ lookAnswer a → Looks text start count work inst r work′ inst′
+told-look text start count work inst {a} {r} {work′} {inst′} e t =
+    record {
+      answer = t ∙ ap (λ x. lookAnswer (answerIn x)) e;
+      work-is = ap workIn e;
+      instance-is = ap instIn e;
+      refused-unchanged = λ h.
+          let (n, l, q) = number-of a (ap (λ x. x / payloadCount) (sym t) ∙ h) in
+          refused-unchanged text start count work inst n l work′ inst′ (sym e ∙ ap (λ x. After.after x work′ inst′) q);
+    }

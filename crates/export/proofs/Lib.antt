@@ -1,2 +1,3 @@
 -- The laws of the exported functions.
 pub mod AnswerLaws
+pub mod AnswersBack

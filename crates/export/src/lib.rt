@@ -3,10 +3,12 @@ use look;
 use look::Answer;
 use rules::plan;
 ghost use mathlib.Core.Path.{_≡_};
-ghost use lib.ListN.{set};
 ghost use Rattle.rules.specs.FileOf.{fileOf};
-ghost use Rattle.look.specs.Looks.{lookOf};
-ghost use Rattle.export.specs.Answers.{checkAnswer, Tells, Looks};
+ghost use Rattle.look.specs.Looks.{answerOf};
+ghost use Rattle.export.specs.Answers.{checkAnswer, lookAnswer, Looks};
+
+// So many different payloads stand in 56 bits.
+const PAYLOAD_COUNT: u64 = 0x100_0000_0000_0000;
 
 // 0 for a text that is accepted; else the number of its refusal in the upper 16 bits and the line in the lower.
 // Refused: the number in the lower bits; 65535 for 65536.
@@ -18,30 +20,20 @@ pub extern "C" fn sakthveim_check(text: &[u8]) -> u32
     (p.number as u32) * 65536 + (p.line as u32)
 }
 
-// An answer's number, and its values at the front of `values`.
-fn told(a: Answer, values: &mut [u64]) -> u32
-    ensures { λ r. ⌜ Tells a (now (values .entry)) r (now (values .exit)) ⌝ }
+// An answer as one number.
+fn told(a: Answer) -> u64
+    ensures { λ r. ⌜ r ≡ lookAnswer (answerOf a) ⌝ }
 {
     match a {
-        Answer::Case(k) => {
-            slice::put_long(values, 0, k);
-            0x80
-        }
-        Answer::NoCase => 0x82,
-        Answer::Spent(next) => {
-            slice::put_long(values, 0, next);
-            0
-        }
-        Answer::Refused(n, l) => {
-            slice::put_long(values, 0, n as u64);
-            slice::put_long(values, 1, l as u64);
-            0x8f
-        }
+        Answer::Case(k) => 0x80 * PAYLOAD_COUNT + k % PAYLOAD_COUNT,
+        Answer::NoCase => 0x82 * PAYLOAD_COUNT,
+        Answer::Spent(next) => next % PAYLOAD_COUNT,
+        Answer::Refused(n, l) => 0x8f * PAYLOAD_COUNT + ((n as u64) * 65536 + (l as u64)),
     }
 }
 
-// A look. The number is 0x80 for a case, 0x82 for no case, 0 for spent and 0x8f for a refusal; `values` begins with k, with next, or with
-// the refusal's number and line.
+// A look. The upper 8 bits are 0x80 for a case, 0x82 for no case, 0 for spent and 0x8f for a refusal; the 56 below are k, 0, the next
+// start, and the refusal's number times 65,536 with its line.
 // Refused: start and count swapped; a count of 0.
 #[no_mangle]
 pub extern "C" fn sakthveim_look(
@@ -50,10 +42,9 @@ pub extern "C" fn sakthveim_look(
     count: u64,
     work: &mut [i32],
     instance: &mut [i16],
-    values: &mut [u64],
-) -> u32
-    ensures { λ r. ⌜ Looks (lookOf (now (text .entry)) start count (now (work .entry)) (now (instance .entry))) (now (values .entry)) r (now (work .exit)) (now (instance .exit)) (now (values .exit)) ⌝ }
+) -> u64
+    ensures { λ r. ⌜ Looks (now (text .entry)) start count (now (work .entry)) (now (instance .entry)) r (now (work .exit)) (now (instance .exit)) ⌝ }
 {
     let a = look::look(text, start, count, work, instance);
-    told(a, values)
+    told(a)
 }

@@ -14,7 +14,11 @@ pub fn answer(text: &[u8]) -> Vec<u8> {
 
 /// What it prints for a text that arrives in pieces of a length, with a pause after each.
 pub fn answer_in_pieces(text: &[u8], length: usize, pause: Duration) -> Vec<u8> {
-    let mut child = Command::new(path())
+    answer_of(Command::new(path()), text, length, pause)
+}
+
+fn answer_of(mut command: Command, text: &[u8], length: usize, pause: Duration) -> Vec<u8> {
+    let mut child = command
         .stdin(Stdio::piped())
         .stdout(Stdio::piped())
         .stderr(Stdio::piped())
@@ -43,6 +47,15 @@ pub fn run_on(input: impl Into<Stdio>) -> (Vec<u8>, String) {
         output.stdout,
         String::from_utf8_lossy(&output.stderr).into_owned(),
     )
+}
+
+/// What the program prints for a text with a stack of so many KiB.
+pub fn answer_with_stack(text: &[u8], kib: usize) -> Vec<u8> {
+    let mut shell = Command::new("sh");
+    shell
+        .args(["-c", &format!("ulimit -s {kib} && exec \"$0\"")])
+        .arg(path());
+    answer_of(shell, text, text.len().max(1), Duration::ZERO)
 }
 
 fn path() -> PathBuf {

@@ -16,13 +16,11 @@ same-length c = search needs
 same-length-2 : tie.Need-same-length-2
 same-length-2 c = search needs
 
-same-length-3 : tie.Need-same-length-3
-same-length-3 c = search needs
-
 returns : tie.Need-returns
-returns c = told-look (c .before .before .before .before .before .before .look .ensures) (c .before .before .told .ensures)
+returns c =
+    let args = c .before .before .before .before .before .before .before .args in
+    told-look (args .text .now) (args .start) (args .count) (args .work .now) (args .instance .now) (c .before .before .before .look .ensures) (c .told .ensures)
 
 pub sakthveim-look-spec : {M : Type 1} → statement M
 sakthveim-look-spec =
-    tie.close
-    (tie.spec look-requires told-requires same-length same-length-2 same-length-3 returns)
+    tie.close (tie.spec look-requires told-requires same-length same-length-2 returns)

@@ -1,0 +1,41 @@
+//! Every call has stack enough in a thread of [`STACK`] bytes: the files whose expressions and
+//! conditions nest the deepest, checked and searched there. A call that needs more ends the test.
+
+use reference::gen;
+use sakthveim::{Answer, Refusal, STACK, WORK};
+use std::thread;
+
+/// The check and the look of a text, in a thread of its own.
+fn in_a_small_thread(text: &[u8]) -> (Result<(), Refusal>, Answer) {
+    let (mut work, mut instance) = (vec![7; WORK], vec![-1; 1]);
+    thread::scope(|scope| {
+        let call = || {
+            let check = sakthveim::check(text);
+            let look = sakthveim::look(text, 0, u64::MAX, &mut work, &mut instance);
+            (check, look)
+        };
+        let thread = thread::Builder::new().stack_size(STACK);
+        let running = thread.spawn_scoped(scope, call).expect("a thread");
+        running.join().expect("an answer")
+    })
+}
+
+#[test]
+fn deepest_files() {
+    for (name, text) in gen::deepest() {
+        let (check, look) = in_a_small_thread(&text);
+        assert_eq!(check, Ok(()), "{name}");
+        let (mut work, mut instance) = ([0; WORK], [0; 1]);
+        let expected = reference::look(&text, 0, u64::MAX, &mut work, &mut instance);
+        assert_eq!(format!("{look:?}"), format!("{expected:?}"), "{name}");
+    }
+}
+
+#[test]
+fn deepest_refusals() {
+    for (name, text) in gen::deepest_refused() {
+        let refusal = Refusal { number: 4, line: 2 };
+        let found = in_a_small_thread(&text);
+        assert_eq!(found, (Err(refusal), Answer::Refused(refusal)), "{name}");
+    }
+}
