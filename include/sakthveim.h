@@ -1,7 +1,7 @@
 /* A look at a rule file, as proved functions on plain numbers. Link with libexport.a, which `rt staticlib export` writes to
  * target/staticlib/. No function has a precondition: any text, any lengths, any start and any count are answered. A slice is a pointer
- * and the number of its elements; the pointer of an empty slice may be null. The slices lent to one call must not overlap, and each must
- * be as long as the caller says. A call needs SAKTHVEIM_STACK bytes of stack: nothing else is asked of a caller. */
+ * and the number of its elements; the pointer of an empty slice may be null. The slices lent to one call must not overlap, each must be
+ * as long as the caller says, and SAKTHVEIM_STACK bytes of stack must be left: nothing else is asked of a caller. */
 #ifndef SAKTHVEIM_H
 #define SAKTHVEIM_H
 
@@ -12,7 +12,7 @@
 extern "C" {
 #endif
 
-/* A thread with a stack of this many bytes can make any call. */
+/* Bytes of stack, enough for any call: a thread with a stack of this size can make it. */
 #define SAKTHVEIM_STACK 131072u
 
 /* The work area of an accepted look has at least this many numbers. It is all zero afterwards. */

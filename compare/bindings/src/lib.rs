@@ -3,12 +3,12 @@
 //! The functions of the library take plain numbers and slices as a pointer and a length, and have
 //! no precondition: any text, any lengths, any start and any count are answered. Rust's slices have
 //! all that C must see to: they are as long as they say, and lent buffers do not overlap. So the
-//! wrapper has nothing to test. A call needs [`STACK`] bytes of stack.
+//! wrapper has nothing to test. [`STACK`] bytes of stack must be left.
 
 /// The work area of an accepted look has at least this many numbers.
 pub const WORK: usize = 9216;
 
-/// A thread with a stack of this many bytes can make any call.
+/// Bytes of stack, enough for any call: a thread with a stack of this size can make it.
 pub const STACK: usize = 131_072;
 
 /// A refusal of document 01: its number, and the line from 1, or 0 where none is said.

@@ -22,12 +22,19 @@ fn in_a_small_thread(text: &[u8]) -> (Result<(), Refusal>, Answer) {
 
 #[test]
 fn deepest_files() {
-    for (name, text) in gen::deepest() {
+    let files = gen::deepest();
+    let negations = "14".repeat(112) + "10";
+    let has_all = |text: &[u8]| String::from_utf8_lossy(text).contains(&negations);
+    assert!(files.iter().any(|(_, text)| has_all(text)));
+    for (name, text) in files {
         let (check, look) = in_a_small_thread(&text);
         assert_eq!(check, Ok(()), "{name}");
         let (mut work, mut instance) = ([0; WORK], [0; 1]);
-        let expected = reference::look(&text, 0, u64::MAX, &mut work, &mut instance);
-        assert_eq!(format!("{look:?}"), format!("{expected:?}"), "{name}");
+        let expected = match reference::look(&text, 0, u64::MAX, &mut work, &mut instance) {
+            reference::Answer::Case(k) => Answer::Case(k),
+            _ => Answer::NoCase,
+        };
+        assert_eq!(look, expected, "{name}");
     }
 }
 

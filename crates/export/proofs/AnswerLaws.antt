@@ -1,4 +1,4 @@
--- The answers of a plan and of a look, and what a caller reads from them. Assumes nothing.
+-- What a plan and an answer give as numbers. Assumes nothing.
 use mathlib.Core.Path.{_≡_, refl, sym, ap, ap₂, _∙_}
 use mathlib.Core.List.{List}
 use Prim.Native.Nat.{ℕ, _+_, _*_, _/_, _%_, _<_}

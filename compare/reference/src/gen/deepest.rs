@@ -66,10 +66,8 @@ pub fn deepest() -> Vec<(String, Vec<u8>)> {
     let expressions = (&OF_EXPRESSIONS[..], &EXPRESSIONS[..], "010000");
     let mut files = Vec::new();
     for (places, forms, innermost) in [conditions, expressions] {
-        for (place, form) in places
-            .iter()
-            .flat_map(|it| forms.iter().map(move |f| (it, f)))
-        {
+        let pairs = |place| forms.iter().map(move |form| (place, form));
+        for (place, form) in places.iter().flat_map(pairs) {
             for sign in 0..2 {
                 let view = frame(place, form, innermost);
                 let name = format!("{}: {}, goal {sign}", place.name, form.name);
@@ -83,16 +81,13 @@ pub fn deepest() -> Vec<(String, Vec<u8>)> {
 
 /// Texts that are refused by 4 at line 2: forms opened to the end of the line, and none closed.
 pub fn deepest_refused() -> Vec<(String, Vec<u8>)> {
-    let bytes = ["14", "15", "16", "1202", "120610", "120612"];
-    let text = |bytes: &str| {
-        let (first, last) = bytes.split_at(bytes.len().min(2));
-        let opened = match last {
-            "" => first.repeat(LINE),
-            _ => first.to_owned() + &last.repeat(LINE),
-        };
-        let view = format!("03010001{opened}");
-        format!("{TABLE}\n{}\n070100\n", &view[..2 * LINE])
+    let conditions = ["14", "15", "16"].map(|form| ("", form));
+    let expressions = ["02", "0610", "0612"].map(|form| ("12", form));
+    let named = |(first, form): (&str, &str)| {
+        let view = format!("03010001{first}{}", form.repeat(LINE));
+        let text = format!("{TABLE}\n{}\n070100\n", &view[..2 * LINE]);
+        (format!("{first}{form}, opened"), text.into_bytes())
     };
-    let named = |bytes: &str| (bytes.to_owned(), text(bytes).into_bytes());
-    bytes.into_iter().map(named).collect()
+    let forms = conditions.into_iter().chain(expressions);
+    forms.map(named).collect()
 }
