@@ -8,6 +8,8 @@ pub mod DigitLaws
 pub mod MoveLaws
 -- the search
 pub mod ScanLaws
+-- demand 2
+pub mod EvaluatedRows
 -- the buffers and a look
 pub mod BufferLaws
 pub mod LookLaws

@@ -21,9 +21,10 @@ use Rattle.meaning.proofs.Elements.{map-same}
 use Rattle.meaning.proofs.Seeks.{sought-one}
 use Rattle.rules.specs.Legal.{Legal}
 use Rattle.rules.proofs.LegalAccepted.{legal-wellFormed}
+use Rattle.store.specs.Layout.{area}
 use Rattle.store.proofs.RowLaws.{cell-of-rows}
 use Rattle.views.proofs.Marking.{never}
-use Rattle.cases.specs.Given.{TablesCounted}
+use Rattle.cases.specs.Given.{Given, TablesCounted}
 use Rattle.cases.specs.Needs.{NeedsOf}
 use Rattle.cases.specs.Judgement.{Ready, TablesKept, Judges}
 use Rattle.cases.specs.declared.outline.Outline.{Outline}
@@ -58,9 +59,35 @@ module _ {F : File} (L : Legal F) where
       ∙ ap (λ (R : List Row). getD (getD R i []) c missing) (k .table t (suc c) (suc i) (omega arith))
       ∙ cell-of-rows work t (suc c) (suc i) i c (omega arith) (omega arith)) codes-tables)
 
+-- ---- a candidate stands in the work area
+
+-- a candidate that was placed
+pub placed-at : {F : File} {bytes starts shape : List ℕ} {o : Outline} {codes : List ℕ} {n k : ℕ} {work work₁ : List ℤ} {counts : List ℕ}
+    → Given F bytes starts shape o → Digits F bytes starts codes n → TablesCounted shape (o .tables) (replicate 16 0) counts
+    → area ≤ length work → Placed bytes starts codes n k work work₁ → At F counts (replicate 16 0) work₁ k
+placed-at {F} G D C whole P = record {
+  counts-size = C .size;
+  refuted-size = refl;
+  whole = omega (arith, P .length-kept);
+  rows = λ t l. counts-are G C refl t l;
+  cells = P .placed F D whole;
+}
+
+-- the next one, after a test and a move
+pub moved-at : {F : File} {bytes starts shape : List ℕ} {o : Outline} {codes : List ℕ} {n k next : ℕ} {counts refuted counts₁ refuted₁ : List ℕ} {work work₁ work₂ : List ℤ}
+    → Given F bytes starts shape o → Digits F bytes starts codes n → TablesKept (o .tables) counts work counts₁ work₁ → length refuted₁ ≡ length refuted
+    → Moved bytes starts codes n k next work₁ work₂ → At F counts refuted work k → At F counts₁ refuted₁ work₂ next
+moved-at {F} G D K e M A = record {
+  counts-size = K .counts-size ∙ A .counts-size;
+  refuted-size = e ∙ A .refuted-size;
+  whole = omega (arith, A .whole, M .length-kept, K .size);
+  rows = λ t h. K .count t (omega (arith, G .tables)) ∙ A .rows t h;
+  cells = M .moved F D (omega (arith, A .whole, K .size)) (cells-kept (G .legal) (G .tables) K ∙ A .cells);
+}
+
 -- ---- a candidate is tested
 
-ready : {F : File} {bytes starts shape needed asked : List ℕ} {o : Outline} {counts refuted : List ℕ} {work : List ℤ} {k : ℕ}
+pub ready : {F : File} {bytes starts shape needed asked : List ℕ} {o : Outline} {counts refuted : List ℕ} {work : List ℤ} {k : ℕ}
     → Plan F bytes starts shape needed asked o → At F counts refuted work k → Ready F (database F k) needed asked counts refuted work
 ready {F} {counts = counts} {work = work} {k = k} P A = record {
   covers = P .covers;
@@ -135,17 +162,7 @@ module _ {bytes starts shape needed asked : List ℕ} {o : Outline} {codes : Lis
       length-kept = M .length-kept ∙ T .kept .size ∙ S .length-kept;
       counts-size = T .kept .counts-size ∙ S .counts-size;
       refuted-size = T .refuted-size ∙ S .refuted-size;
-      here = λ F P D A.
-          let X = S .here F P D A in
-          let L = P .given .legal in
-          let t = P .given .tables in
-          record {
-            counts-size = T .kept .counts-size ∙ X .counts-size;
-            refuted-size = T .refuted-size ∙ X .refuted-size;
-            whole = omega (arith, X .whole, M .length-kept, T .kept .size);
-            rows = λ i h. T .kept .count i (omega arith) ∙ X .rows i h;
-            cells = M .moved F D (omega (arith, X .whole, T .kept .size)) (cells-kept L t (T .kept) ∙ X .cells);
-          };
+      here = λ F P D A. moved-at (P .given) D (T .kept) (T .refuted-size) M (S .here F P D A);
       none = λ F P D A j a b. by-test (ltb j k)
           (λ e. S .none F P D A j a (ltb-true j k e))
           (λ e. let h = ltb-false j k e in by-test (candidate F j)
@@ -191,11 +208,5 @@ pub searches : {bytes starts shape : List ℕ} {o : Outline} {codes : List ℕ} 
     → Searches bytes starts shape o codes n start end work r work₂
 searches {shape = shape} C N P S = record {
   length-kept = S .length-kept ∙ P .length-kept;
-  found = λ F G D whole h. S .found F (record { given = G; covers = N .covers F shape G refl refl }) D (record {
-    counts-size = C .size;
-    refuted-size = refl;
-    whole = omega (arith, P .length-kept);
-    rows = λ t l. counts-are G C refl t l;
-    cells = P .placed F D whole;
-  }) h;
+  found = λ F G D whole h. S .found F (record { given = G; covers = N .covers F shape G refl refl }) D (placed-at G D C whole P) h;
 }

@@ -1,5 +1,6 @@
 -- What a reader must believe of looks.
 pub mod Looks
+pub mod Evaluations
 -- what the parts of the code give
 pub mod Cells
 pub mod Moves

@@ -1,4 +1,5 @@
 -- The laws, lowest first.
 pub mod Listed
+pub mod StrideLaws
 pub mod CellLaws
 pub mod RowLaws

@@ -1,13 +1,11 @@
--- Where a cell lies in the work area. Every other definition and law speaks of cells by relation, row and column only, so that another
--- layout changes this file and the proofs that open it. Assumes nothing: these are definitions, and they compute.
-use mathlib.Core.Bool.{Bool, _&&_, cond}
+-- The work area of a look: cells at its sizes. Assumes nothing: these are definitions, and they compute.
+use mathlib.Core.Bool.{Bool}
 use mathlib.Core.List.{List}
-use Prim.Native.Nat.{ℕ, _+_, _*_}
-use lib.Dec.{ltb}
-use lib.IntN.{ℤ, pos}
-use lib.ListN.{getD, set}
-use Rattle.value.specs.Value.{Value, stored}
-use Rattle.meaning.specs.Evaluation.{missing}
+use Prim.Native.Nat.{ℕ}
+use lib.IntN.{ℤ}
+use Rattle.value.specs.Value.{Value}
+use Rattle.store.specs.Strides
+use Rattle.store.specs.Strides.{Sizes}
 
 -- how many relations, rows of each and columns of a row there are
 abbrev pub relationLimit : ℕ
@@ -19,25 +17,25 @@ rowLimit = 64
 abbrev pub columnLimit : ℕ
 columnLimit = 8
 
+abbrev pub sizes : Sizes
+sizes = record { relations = relationLimit; rows = rowLimit; columns = columnLimit; free = 64 }
+
 -- a relation has its rows, and 64 numbers kept free
 abbrev pub stretch : ℕ
-stretch = rowLimit * columnLimit + 64
+stretch = Strides.stretch sizes
 
 -- the stretches of all relations
 abbrev pub area : ℕ
-area = relationLimit * stretch
+area = Strides.area sizes
 
-unfoldable pub inside : ℕ → ℕ → ℕ → Bool
-inside r i c = ltb r relationLimit && (ltb i rowLimit && ltb c columnLimit)
+abbrev pub inside : ℕ → ℕ → ℕ → Bool
+inside = Strides.inside sizes
 
--- a relation's rows lie one after the other
-unfoldable pub position : ℕ → ℕ → ℕ → ℕ
-position r i c = stretch * r + (columnLimit * i + c)
+abbrev pub position : ℕ → ℕ → ℕ → ℕ
+position = Strides.position sizes
 
--- a cell by relation, row and column; 0 where there is none
-unfoldable pub cellIn : List ℤ → ℕ → ℕ → ℕ → Value
-cellIn work r i c = cond (inside r i c) (Value.number (getD work (position r i c) (pos 0))) missing
+abbrev pub cellIn : List ℤ → ℕ → ℕ → ℕ → Value
+cellIn = Strides.cellIn sizes
 
--- the work area after one cell becomes v
-unfoldable pub putCell : List ℤ → ℕ → ℕ → ℕ → Value → List ℤ
-putCell work r i c v = cond (inside r i c) (set work (position r i c) (stored v)) work
+abbrev pub putCell : List ℤ → ℕ → ℕ → ℕ → Value → List ℤ
+putCell = Strides.putCell sizes

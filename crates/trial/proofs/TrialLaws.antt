@@ -1,22 +1,31 @@
 -- A trial, from what each of its calls gives. Assumes nothing.
 use mathlib.Core.Path.{_≡_, refl, sym, ap, ap₂, subst, _∙_}
-use mathlib.Core.Bool.{Bool, cond}
+use mathlib.Core.Bool.{Bool, true, false, cond}
 use mathlib.Core.List.{List}
-use Prim.Native.Nat.{ℕ, _+_, _*_}
+use Prim.Native.Nat.{ℕ, _+_, _*_, _≤_}
 use native.Mathlib.Omega.{arith}
 use lib.IntN.{ℤ}
-use lib.ListN.{replicate, getD-replicate}
+use lib.ListN.{length, replicate, getD-replicate}
+use Rattle.value.proofs.Decides.{dec-true, true-dec}
+use Rattle.meaning.specs.Syntax.{File, Database}
+use Rattle.meaning.specs.Algebra.{MeaningOf}
+use Rattle.meaning.specs.Bounds.{wellFormed}
+use Rattle.meaning.specs.Valid.{Shaped}
+use Rattle.meaning.specs.Cases.{isCase}
+use Rattle.meaning.proofs.Demand2.{cases}
+use Rattle.meaning.proofs.Relations.{rows-mean}
 use Rattle.rules.specs.Check.{Outcome}
 use Rattle.rules.specs.FileOf.{fileOf}
 use Rattle.rules.specs.Plans.{Plans}
 use Rattle.rules.specs.declared.plan.Plan.{Plan}
 use Rattle.rules.proofs.TextLaws.{accepted-text}
+use Rattle.store.specs.Layout.{area}
 use Rattle.cases.specs.Given.{Outlines, TablesIn, TablesCounted}
 use Rattle.cases.specs.Needs.{NeedsOf}
 use Rattle.cases.specs.Judgement.{Ready, Evaluates, Judges}
 use Rattle.cases.specs.declared.outline.Outline.{Outline}
 use Rattle.cases.proofs.Preparing.{counts-are, tables-kept, all-covers}
-use Rattle.trial.specs.Tried.{Evaluated, EveryRelation, Tried}
+use Rattle.trial.specs.Tried.{TablesStand, Evaluated, ByAlgebra, EveryRelation, Tried}
 
 -- ---- a text that is refused
 
@@ -63,3 +72,24 @@ pub accepted-trial : (text : List ℕ) (out : Outcome) {p : Plan} {o : Outline} 
 accepted-trial text (Outcome.refused n line) e h z O E v = absurd (h .2 (sym (h .0) ∙ z))
 accepted-trial text (Outcome.accepted F) {p} {counts′ = counts′} {work′ = work′} e h z O E v = λ d shaped T whole size.
     subst (λ k. Evaluated F d k counts′ work′) (sym v) (E .evaluated F (O .given F (accepted-text text F e .legal) h) d shaped T whole size)
+
+-- ---- by the algebra
+
+one-true : (b : Bool) {r : ℕ} → r ≡ cond b 1 0 → r ≡ 1 → b ≡ true
+one-true true p q = refl
+one-true false p q = absurd (omega arith)
+
+pub by-algebra : {F : File} {d : Database} {r : ℕ} {counts : List ℕ} {work : List ℤ} → wellFormed F ≡ true → Evaluated F d r counts work → ByAlgebra F d r counts work
+by-algebra {F} {d} w E =
+    let decided = cases F w d in
+    record {
+      verdict = ((λ q. dec-true decided (one-true (isCase F (F .goal) d) (E .verdict) q)), λ c. E .verdict ∙ ap (λ b. cond b 1 0) (true-dec decided c));
+      relation = λ i h. subst (MeaningOf F d i) (sym (E .relation i h)) (rows-mean F d i);
+    }
+
+-- what `sakthveim_evaluate` promises of an accepted text, said by the algebra
+pub tried-rows : (text : List ℕ) (F : File) → fileOf text ≡ Outcome.accepted F → (counts : List ℕ) (work : List ℤ) (r : ℕ) (counts′ : List ℕ) (work′ : List ℤ)
+    → Tried (fileOf text) counts work r counts′ work′
+    → (d : Database) → Shaped F d → TablesStand F d work → area ≤ length work → length counts ≡ 16 → ByAlgebra F d r counts′ work′
+tried-rows text F e counts work r counts′ work′ t d shaped T whole size =
+    by-algebra (accepted-text text F e .well-formed) (subst (λ out. Tried out counts work r counts′ work′) e t d shaped T whole size)

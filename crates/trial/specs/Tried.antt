@@ -1,5 +1,6 @@
 -- What the evaluation of one database gives. Assumes nothing: these are definitions.
 use mathlib.Core.Path.{_≡_}
+use mathlib.Core.Logic.{_↔_}
 use mathlib.Core.Bool.{Bool, cond}
 use mathlib.Core.List.{List, []}
 use Prim.Native.Nat.{ℕ, _+_, _*_, _≤_, _<_}
@@ -7,9 +8,10 @@ use lib.IntN.{ℤ}
 use lib.ListN.{length, getD}
 use Rattle.meaning.specs.Syntax.{File, Database}
 use Rattle.meaning.specs.Rows.{rows}
+use Rattle.meaning.specs.Algebra.{MeaningOf}
 use Rattle.meaning.specs.Bounds.{schemas}
 use Rattle.meaning.specs.Valid.{Shaped}
-use Rattle.meaning.specs.Cases.{isCase}
+use Rattle.meaning.specs.Cases.{Case, isCase}
 use Rattle.rules.specs.Check.{Outcome}
 use Rattle.rules.specs.Legal.{tableAt}
 use Rattle.store.specs.Layout.{area}
@@ -27,6 +29,11 @@ pub record TablesStand (F : File) (d : Database) (work : List ℤ) : Type 0 wher
 pub record Evaluated (F : File) (d : Database) (r : ℕ) (counts : List ℕ) (work : List ℤ) : Type 0 where
   pub verdict : r ≡ cond (isCase F (F .goal) d) 1 0
   pub relation : (i : ℕ) → i < length (F .tables) + length (F .views) → rowsIn work i (columnsOf (schemas F) i) (getD counts i 0) ≡ rows F d i
+
+-- the same by the algebra: the case of Definitions 1 to 4, and ⟨V⟩ of every relation
+pub record ByAlgebra (F : File) (d : Database) (r : ℕ) (counts : List ℕ) (work : List ℤ) : Type 0 where
+  pub verdict : (r ≡ 1) ↔ Case F d (F .goal)
+  pub relation : (i : ℕ) → i < length (F .tables) + length (F .views) → MeaningOf F d i (rowsIn work i (columnsOf (schemas F) i) (getD counts i 0))
 
 -- of every file that is given
 pub record EveryRelation (bytes starts shape : List ℕ) (o : Outline) (counts : List ℕ) (work : List ℤ) (r : Bool) (counts′ : List ℕ) (work′ : List ℤ) : Type 0 where

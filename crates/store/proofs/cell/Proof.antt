@@ -4,7 +4,9 @@ use borrow.Author.Tests.{not-true, not-false}
 use mir.Syntax.{w32}
 use mathlib.Core.Path.{sym, _∙_}
 use Rattle.value.proofs.Fits.{back}
-use Rattle.store.proofs.CellLaws.{inside-limits, cell-outside, cell-past, cell-found}
+use Rattle.store.specs.Layout.{sizes}
+use Rattle.store.proofs.StrideLaws.{inside-limits}
+use Rattle.store.proofs.CellLaws.{cell-outside, cell-past, cell-found}
 use Rattle.store.proofs.cell.Statement.{statement}
 use Rattle.store.proofs.cell.Tie as tie
 
@@ -22,7 +24,7 @@ returns c =
 position-requires : tie.Need-position-requires
 position-requires c κs =
     let a = c .before .before .args in
-    let l = inside-limits (a .relation) (a .row) (a .column) (sym (c .before .inside .ensures) ∙ not-false (c .before .inside .result) (c .if1 .left)) in
+    let l = inside-limits sizes (a .relation) (a .row) (a .column) (sym (c .before .inside .ensures) ∙ not-false (c .before .inside .result) (c .if1 .left)) in
     search needs
 
 from-work-requires-2 : tie.Need-from-work-requires-2

@@ -1,7 +1,8 @@
 -- `store::inside` meets its contract. Assumes nothing.
 use borrow.Author.Needs.{needs}
 use borrow.Author.Tests.{lt-ltb, le-ltb}
-use Rattle.store.specs.Layout.{inside, relationLimit, rowLimit}
+use Rattle.store.specs.Strides.{inside}
+use Rattle.store.specs.Layout.{relationLimit, rowLimit}
 use Rattle.store.proofs.inside.Statement.{statement}
 use Rattle.store.proofs.inside.Tie as tie
 

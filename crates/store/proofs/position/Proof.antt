@@ -1,6 +1,6 @@
 -- `store::position` meets its contract. Assumes nothing.
 use borrow.Author.Needs.{needs}
-use Rattle.store.specs.Layout.{position}
+use Rattle.store.specs.Strides.{position}
 use Rattle.store.proofs.position.Statement.{statement}
 use Rattle.store.proofs.position.Tie as tie
 

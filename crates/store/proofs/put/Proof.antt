@@ -7,9 +7,9 @@ use native.Mathlib.Omega.{arith}
 use lib.ListN.{length}
 use borrow.Author.Tests.{not-true, not-false}
 use borrow.Author.Needs.{needs}
-use Rattle.store.specs.Layout.{relationLimit, rowLimit, columnLimit, area}
+use Rattle.store.specs.Layout.{sizes, relationLimit, rowLimit, columnLimit, area}
 use Rattle.store.specs.Rows.{room, rowOf}
-use Rattle.store.proofs.RowLaws.{room-limits, put-none, put-lent}
+use Rattle.store.proofs.StrideLaws.{room-limits, put-none, put-lent}
 use Rattle.store.proofs.put.Statement.{statement}
 use Rattle.store.proofs.put.Tie as tie
 
@@ -17,7 +17,7 @@ has-room : (s : tie.Else1) → let a = s .before .before .before .args in room (
 has-room s = sym (s .before .room .ensures) ∙ not-false (s .before .room .result) (s .if1 .left)
 
 limits : (s : tie.Else1) → let a = s .before .before .before .args in (a .relation < relationLimit) × (a .at < rowLimit) × (a .width ≤ columnLimit) × (area ≤ length (a .work .now))
-limits s = let a = s .before .before .before .args in room-limits (a .work .now) (a .relation) (a .at) (a .width) (has-room s)
+limits s = let a = s .before .before .before .args in room-limits sizes (a .work .now) (a .relation) (a .at) (a .width) (has-room s)
 
 room-requires : tie.Need-room-requires
 room-requires c κs = search needs
@@ -28,7 +28,7 @@ same-length c = search needs
 returns : tie.Need-returns
 returns c =
     let a = c .before .before .before .args in
-    sym (put-none (a .work .now) (a .relation) (a .at) (a .width) (rowOf (a .row) (a .width)) (sym (c .before .room .ensures) ∙ not-true (c .before .room .result) (c .if1 .taken)))
+    sym (put-none sizes (a .work .now) (a .relation) (a .at) (a .width) (rowOf (a .row) (a .width)) (sym (c .before .room .ensures) ∙ not-true (c .before .room .result) (c .if1 .taken)))
 
 mul-place : tie.Need-mul-place
 mul-place c = let l = limits c in omega arith
@@ -54,7 +54,7 @@ same-length-2 c = search needs
 returns-2 : tie.Need-returns-2
 returns-2 c =
     let a = c .before .before .before .before .before .before .args in
-    put-lent (a .work .now) (a .relation) (a .at) (a .width) (rowOf (a .row) (a .width)) (c .before .put-row .last .0) (has-room (c .before .before .before)) (c .before .put-row .ensures)
+    put-lent sizes (a .work .now) (a .relation) (a .at) (a .width) (rowOf (a .row) (a .width)) (c .before .put-row .last .0) (has-room (c .before .before .before)) (c .before .put-row .ensures)
 
 pub put-spec : {M : Type 1} → statement M
 put-spec =

@@ -5,7 +5,9 @@ use mir.Syntax.{w32}
 use mathlib.Core.Path.{sym, _∙_}
 use Rattle.value.proofs.Fits.{back}
 use Rattle.value.specs.Machine.{valueOf}
-use Rattle.store.proofs.CellLaws.{inside-limits, put-outside, put-past, put-found}
+use Rattle.store.specs.Layout.{sizes}
+use Rattle.store.proofs.StrideLaws.{inside-limits}
+use Rattle.store.proofs.CellLaws.{put-outside, put-past, put-found}
 use Rattle.store.proofs.put_cell.Statement.{statement}
 use Rattle.store.proofs.put_cell.Tie as tie
 
@@ -20,7 +22,7 @@ returns c =
 position-requires : tie.Need-position-requires
 position-requires c κs =
     let a = c .before .before .args in
-    let l = inside-limits (a .relation) (a .row) (a .column) (sym (c .before .inside .ensures) ∙ not-false (c .before .inside .result) (c .if1 .left)) in
+    let l = inside-limits sizes (a .relation) (a .row) (a .column) (sym (c .before .inside .ensures) ∙ not-false (c .before .inside .result) (c .if1 .left)) in
     search needs
 
 returns-2 : tie.Need-returns-2

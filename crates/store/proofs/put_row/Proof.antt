@@ -4,6 +4,7 @@ use Prim.Native.Nat.{_-_, _≤_}
 use mathlib.Core.Path.{_≡_, sym, _∙_}
 use native.Mathlib.Omega.{arith}
 use lib.ListN.{length, length-map}
+use Rattle.store.specs.Strides
 use Rattle.store.specs.Rows.{putCells, rowOf}
 use Rattle.store.proofs.RowLaws.{put-next}
 use Rattle.store.proofs.CellLaws.{put-cell-length}
@@ -18,7 +19,7 @@ abbrev μ-loop : tie.MeasureT-loop
 μ-loop part₀ at width values c₀ part c = width - c
 
 loop-holds : tie.Need-loop-holds Inv-loop μ-loop
-unfolding putCells
+unfolding Strides.putCells
 loop-holds c = search needs
 
 mul-put-cell : tie.Need-mul-put-cell Inv-loop μ-loop
@@ -37,7 +38,7 @@ loop-less : tie.Need-loop-less Inv-loop μ-loop
 loop-less c = search needs
 
 loop-again : tie.Need-loop-again Inv-loop μ-loop
-unfolding putCells
+unfolding Strides.putCells
 loop-again c =
     let s = c .before .before .before .before .before .before .before in
     let l = c .before .before .before .before .before .loop in

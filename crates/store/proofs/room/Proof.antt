@@ -1,8 +1,8 @@
 -- `store::room` meets its contract. Assumes nothing.
 use borrow.Author.Needs.{needs}
 use borrow.Author.Tests.{lt-ltb, le-ltb, le-leb, lt-leb}
+use Rattle.store.specs.Strides.{room}
 use Rattle.store.specs.Layout.{relationLimit, rowLimit, columnLimit}
-use Rattle.store.specs.Rows.{room}
 use Rattle.store.proofs.room.Statement.{statement}
 use Rattle.store.proofs.room.Tie as tie
 
