@@ -10,6 +10,7 @@ use lib.ListN.{length, replicate}
 use Rattle.value.proofs.Decides.{dec-true, true-dec}
 use Rattle.meaning.specs.Syntax.{File}
 use Rattle.meaning.specs.Algebra.{MeaningOf}
+use Rattle.meaning.specs.Bounds.{wellFormed}
 use Rattle.meaning.specs.Candidates.{database}
 use Rattle.meaning.specs.Cases.{Case}
 use Rattle.meaning.proofs.Demand2.{cases}
@@ -31,6 +32,9 @@ use Rattle.look.proofs.Standing.{digits-given}
 use Rattle.look.proofs.ScanLaws.{placed-at, moved-at, ready}
 
 module _ (text : List ℕ) (F : File) (e : fileOf text ≡ Outcome.accepted F) where
+  well-formed : wellFormed F ≡ true
+  well-formed = accepted-text text F e .well-formed
+
   given : {p : Plan} {o : Outline} → Plans (fileOf text) p → Outlines p o → Given F (p .bytes) (p .starts) (p .shape) o
   given {p} c o = o .given F (accepted-text text F e .legal) (subst (λ out. Plans out p) e c)
 
@@ -82,6 +86,7 @@ module _ (text : List ℕ) (F : File) (e : fileOf text ≡ Outcome.accepted F) w
       stands = moved-at file-given (digits-given file-given D refl) (J .kept) (J .refuted-size) M (P .stands);
     }
 
+    -- "Each view's rows, counted as a bag, are those of the Extended Relational Algebra"
     pub evaluated-rows : {counts′ refuted′ : List ℕ} {work′ : List ℤ} → Evaluated P counts′ refuted′ work′
         → RowsMean F (database F k) (P .needed) counts′ work′
     evaluated-rows E = record {
@@ -89,9 +94,10 @@ module _ (text : List ℕ) (F : File) (e : fileOf text ≡ Outcome.accepted F) w
       goal = λ s. subst (λ b. Wants (P .needed) (P .asked) b (F .goal .view)) s (covered .goal);
     }
 
+    -- "a database is a positive or negative case exactly by Definitions 1 to 4"
     pub evaluated-case : {r : Bool} {counts′ refuted′ : List ℕ} {work′ : List ℤ} → Judged P r counts′ refuted′ work′
         → (r ≡ true) ↔ Case F (database F k) (F .goal)
     evaluated-case J =
         let same = J .case F (database F k) file-given evaluable in
-        let decided = cases F (accepted-text text F e .well-formed) (database F k) in
+        let decided = cases F well-formed (database F k) in
         ((λ t. dec-true decided (sym same ∙ t)), λ c. same ∙ true-dec decided c)
