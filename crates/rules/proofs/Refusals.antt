@@ -18,9 +18,8 @@ use Rattle.value.proofs.Decides.{by-test}
 use Rattle.value.proofs.Values.{all-map}
 use Rattle.meaning.specs.Syntax.{Goal, File}
 use Rattle.meaning.specs.Candidates.{candidates}
-use Rattle.text.specs.Text.{Lines, FirstWrong, Gives, textOf}
-use Rattle.text.proofs.Laws.{text-long}
-use Rattle.text.proofs.Complete.{gives, gives-only}
+use Rattle.text.specs.Text.{Lines, Gives}
+use Rattle.text.proofs.Complete.{gives, gives-only, wrong-few, frames-few}
 use Rattle.rules.specs.Draft.{Draft, empty, fileAt}
 use Rattle.rules.specs.Check.{Outcome, Checked, candidateLimit, finished, onward, checkFrames, checkAll}
 use Rattle.rules.specs.FileOf.{fileOf, outcomeOf}
@@ -115,7 +114,7 @@ module _ (text : List ℕ) where
   unfolding fileOf
   refused-when n l = (refused-of (gives text), refused-so)
 
-  -- "a refused call gives the one number and line"
+  -- one number and one line
   pub refused-once : {n l m k : ℕ} → Refused text n l → Refused text m k → (n ≡ m) × (l ≡ k)
   refused-once {n} {l} {m} {k} a b =
       let p = refused-so a in
@@ -132,13 +131,7 @@ module _ (text : List ℕ) where
 
 -- ---- their numbers and lines
 
-wrong-few : {text : List ℕ} {k : ℕ} → FirstWrong k text → k ≤ length text
-wrong-few w = omega (arith, w .line-is, w .some, text-long (w .before), length-append (textOf (w .before)) (w .rest), ap length (w .text-is))
-
-frames-few : {text : List ℕ} {fs : List (List ℕ)} → Gives text (Lines.frames fs) → length fs ≤ 8192
-frames-few {fs = fs} (Gives.accepted t good one few) = omega (arith, ap length t, text-long fs)
-
--- "a line from 1, or line 0", and a text has at most 8,192 lines
+-- "a line from 1, or line 0 where none is said": a text has at most 8,192
 limits : {text : List ℕ} {n l : ℕ} → Refused text n l → Limits 1 10 n × (l ≤ 8192)
 limits (Refused.in-text (Gives.empty h)) = (omega arith, omega arith)
 limits (Refused.in-text (Gives.long h)) = (omega arith, omega arith)

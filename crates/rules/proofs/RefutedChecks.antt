@@ -1,6 +1,6 @@
 -- Wrong checkers, of none of which `refused-when` holds: one that tries row bounds before the rule on 07, and one that counts candidates
 -- before it misses the goal. Assumes nothing.
-use mathlib.Core.Path.{_≡_, refl}
+use mathlib.Core.Path.{_≡_, refl, ap, _∙_}
 use mathlib.Core.Bool.{false, cond}
 use mathlib.Core.List.{List, [], _∷_}
 use mathlib.Core.Logic.{_↔_}
@@ -17,8 +17,8 @@ use Rattle.meaning.specs.Bounds.{sameWidth, aggregatesFit, bounded, rangesFit}
 use Rattle.meaning.specs.Candidates.{candidates}
 use Rattle.rules.specs.Draft.{Draft, Item, empty, added, fileAt, schemasOf, inOrder, hasRoom}
 use Rattle.rules.specs.Frames.{frame, wholeFault}
-use Rattle.rules.specs.Check.{Outcome, Checked, candidateLimit, finished, onward, checkFrame, checkFrames}
-use Rattle.rules.specs.FileOf.{fileOf}
+use Rattle.rules.specs.Check.{Outcome, Checked, candidateLimit, finished, onward, readChecked, checkFrame, checkFrames}
+use Rattle.rules.specs.FileOf.{fileOf, outcomeOf}
 use Rattle.rules.specs.Refused.{Refused}
 use Rattle.rules.proofs.Refusals.{refused-when}
 
@@ -51,6 +51,35 @@ module _ (whole : Draft → Item → ℕ) (end : Draft → Option Goal → Outco
 
   abbrev checkBy : List ℕ → Outcome
   checkBy text = linesBy (framesOf text)
+
+-- with the right rules and the right end it is the right one
+onward-same : {more then : Draft → Outcome} (l : ℕ) (c : Checked) → ((d : Draft) → more d ≡ then d) → onward more l c ≡ onward then l c
+onward-same l (Checked.fault n) h = refl
+onward-same l (Checked.next d) h = h d
+
+read-same : (d : Draft) (r : Read Item) → readBy wholeFault finished d r ≡ readChecked d r
+read-same d (Read.ok i rest) = refl
+read-same d (Read.refused n) = refl
+
+frame-same : (d : Draft) (f : List ℕ) → frameBy wholeFault finished d f ≡ checkFrame d f
+unfolding checkFrame
+frame-same d [] = refl
+frame-same d (k ∷ bs) = rw (read-same d (frame d k bs))
+
+frames-same : (fs : List (List ℕ)) (d : Draft) (l : ℕ) → framesBy wholeFault finished fs d l ≡ checkFrames fs d l
+unfolding checkFrames
+frames-same [] d l = refl
+frames-same (f ∷ fs) d l =
+    onward-same l (frameBy wholeFault finished d f) (λ e. frames-same fs e (suc l))
+    ∙ ap (onward (λ e. checkFrames fs e (suc l)) l) (frame-same d f)
+
+lines-same : (lines : Lines) → linesBy wholeFault finished lines ≡ outcomeOf lines
+lines-same (Lines.frames fs) = frames-same fs empty 1
+lines-same (Lines.refused n k) = refl
+
+right : (text : List ℕ) → checkBy wholeFault finished text ≡ fileOf text
+unfolding fileOf
+right text = lines-same (framesOf text)
 
 -- ---- 8 before 7
 

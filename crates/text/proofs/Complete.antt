@@ -14,7 +14,7 @@ use Rattle.value.specs.Bag.{All}
 use Rattle.value.proofs.Decides.{by-test}
 use Rattle.text.specs.Text.{Lines, frames, refused, digit, State, between, half, wrong, lineAfter, closed, step, run, ended, linesOf, framesOf, hex, line, textOf, Frame, FirstWrong, Gives, accepted, empty, long, wrong-line}
 use Rattle.text.proofs.Runs.{run-text}
-use Rattle.text.proofs.Laws.{Stuck, Spelt, stuck-half, spelt-whole, reads-back, only-such}
+use Rattle.text.proofs.Laws.{Stuck, Spelt, stuck-half, spelt-whole, text-long, reads-back, only-such}
 use Rattle.text.proofs.Refusals.{empty-refused, long-refused, lines-within, refusal-number, empty-or-long, first-wrong}
 
 -- ---- lines read behind others
@@ -126,3 +126,12 @@ gives-only {text} (accepted {fs} e all some few) = ap framesOf e ∙ reads-back 
 gives-only {text} (empty h) = empty-refused text h
 gives-only {text} (long h) = long-refused text h
 gives-only (wrong-line w few) = wrong-refused w few
+
+-- ---- lines are few
+
+-- the first wrong line is one of the text, which has at least as many characters as lines
+pub wrong-few : {k : ℕ} {text : List ℕ} → FirstWrong k text → k ≤ length text
+wrong-few w = omega (arith, w .line-is, w .some, text-long (w .before), length-append (textOf (w .before)) (w .rest), ap length (w .text-is))
+
+pub frames-few : {text : List ℕ} {fs : List (List ℕ)} → Gives text (frames fs) → length fs ≤ 8192
+frames-few {fs = fs} (accepted t good one few) = omega (arith, ap length t, text-long fs)
