@@ -23,6 +23,7 @@ use Rattle.meaning.proofs.Relations.{rows-mean}
 use Rattle.text.specs.Text.{framesOf, linesOf, run, step, digit as hexValue, textOf, line, hex, hexDigit}
 use Rattle.rules.specs.Check.{Outcome, checkFrame, checkFrames}
 use Rattle.rules.specs.FileOf.{fileOf}
+use Rattle.rules.proofs.TextLaws.{accepted-text}
 use Rattle.look.proofs.RealLooks.{look-of-text, any-start}
 use Rattle.report.specs.Output.{numberBytes, tableFrame, searchedAll, outputOf}
 use Rattle.marked.specs.Table.{Entry, Gives, Judges, Right}
@@ -72,7 +73,7 @@ right (m, Entry.looked text s c a shows) (F, e, f) =
     let g = gives text F e s c a shows f in
     (F, e, g, judges text F e s c a shows g)
 right (m, Entry.viewed text k v rs) (F, e, n, l, r) =
-    (F, e, (dec-true (ltb-dec _ _) n, dec-true (ltb-dec _ _) l, rw r at (rows-mean F (database F k) v), r))
+    (F, e, (dec-true (ltb-dec _ _) n, dec-true (ltb-dec _ _) l, rw r at (rows-mean F (accepted-text text F e .well-formed) (database F k) v), r))
 right (m, Entry.accepted text n) c = c
 right (m, Entry.refused text n l) c = c
 right (m, Entry.printed text output) c = c
