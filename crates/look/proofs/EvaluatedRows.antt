@@ -90,7 +90,7 @@ module _ (text : List ℕ) (F : File) (e : fileOf text ≡ Outcome.accepted F) w
     pub evaluated-rows : {counts′ refuted′ : List ℕ} {work′ : List ℤ} → Evaluated P counts′ refuted′ work′
         → RowsMean F (database F k) (P .needed) counts′ work′
     evaluated-rows E = record {
-      relation = λ i h f. subst (MeaningOf F (database F k) i) (sym (E .known file-given evaluable .rows-known i h f)) (rows-mean F (database F k) i);
+      relation = λ i h f. subst (MeaningOf F (database F k) i) (sym (E .known file-given evaluable .rows-known i h f)) (rows-mean F well-formed (database F k) i);
       goal = λ s. subst (λ b. Wants (P .needed) (P .asked) b (F .goal .view)) s (covered .goal);
     }
 

@@ -28,6 +28,7 @@ use Rattle.meaning.proofs.Relations.{rows-mean}
 use Rattle.text.specs.Text.{framesOf, linesOf, run, step, digit as hexValue, textOf, line, hex, hexDigit}
 use Rattle.rules.specs.Check.{Outcome, checkFrame, checkFrames}
 use Rattle.rules.specs.FileOf.{fileOf}
+use Rattle.rules.proofs.TextLaws.{accepted-text}
 use Rattle.look.proofs.RealLooks.{look-of-text, demand-3, any-start}
 use Rattle.look.specs.Looks.{lookOf}
 use Rattle.report.specs.Output.{numberBytes, tableFrame, searchedAll, outputOf}
@@ -98,7 +99,7 @@ right (Entry.looked text s c a shows) (F, e, f) =
     let g = gives text F e s c a shows f in
     (F, e, g, judges text F e s c a shows g)
 right (Entry.viewed text k v rs) (F, e, n, l, r) =
-    (F, e, (dec-true (ltb-dec _ _) n, dec-true (ltb-dec _ _) l, rw r at (rows-mean F (database F k) v), r))
+    (F, e, (dec-true (ltb-dec _ _) n, dec-true (ltb-dec _ _) l, rw r at (rows-mean F (accepted-text text F e .well-formed) (database F k) v), r))
 right (Entry.bounded text v n rs) (F, e, l, r) = (F, e, (dec-true (ltb-dec _ _) l, r))
 right (Entry.accepted text n) c = c
 right (Entry.refused text n l) c = c

@@ -11,8 +11,8 @@ use lib.ListN.{length, take, length-map}
 use lib.Seq.{length-take-le}
 use Rattle.value.specs.Bag.{All, Same}
 use Rattle.value.proofs.Decides.{Decides, and-dec, by-dec, dec-true, or-dec}
-use Rattle.meaning.specs.Algebra.{Bag, IsMeaning, below, query}
-use Rattle.meaning.specs.Bounds.{earlier, everyView, names, schemas, tableSchema, viewSchema}
+use Rattle.meaning.specs.Algebra.{Bag, below, query}
+use Rattle.meaning.specs.Bounds.{aggregatesFit, earlier, everyView, names, schemas, tableSchema, viewSchema, wellFormed}
 use Rattle.meaning.specs.Cases.{Case, Inhabited, NTC, NonEmpty, PTC, PTC-query, Wanted, hasRow, isCase, negative, refuted, someRow, wanted}
 use Rattle.meaning.specs.Evaluation.{rowTest}
 use Rattle.meaning.specs.Rows.{rows, rowsOf}
@@ -21,8 +21,9 @@ use Rattle.meaning.specs.Valid.{Valid, valid}
 use Rattle.meaning.proofs.DecidedLists.{T-dec, all-dec, any-dec, cons-all, each-length, isPos-dec, ltb-dec}
 use Rattle.meaning.proofs.DecidedValidity.{valid-dec}
 use Rattle.meaning.proofs.Operations.{answer-one, answer-rows}
-use Rattle.meaning.proofs.Relations.{below-one, meaning-one, meaning-rows, means-rows, query-split, rows-mean, same-tables}
+use Rattle.meaning.proofs.Relations.{below-one, fits, meaning-one, meaning-rows, means-rows, query-split, rows-mean, same-tables}
 use Rattle.meaning.proofs.Stacks.{length-stack, stackAll-at}
+use Rattle.meaning.proofs.WellFormed.{rules}
 
 -- a file whose views name earlier relations
 pub record Stacked (n : ℕ) (F : File) : Type 0 where
@@ -59,68 +60,10 @@ hasRow-dec (r ∷ B) = record { sound = λ t. (r, rw (rowTest .self r) (omega ar
 pub inhabited-same : {B B′ : Bag} → Same rowTest B B′ → Inhabited B → Inhabited B′
 inhabited-same h x = (x .0, rw (h .at (x .0)) at (x .1))
 
+pub query-lt : (F : File) (d : Database) (v : ℕ) (q : View) → query (length d) F v ≡ some q → v ≤ length d + length (F .views)
+query-lt F d v q e = let x = query-split (length d) F v q e in omega (arith, x .2)
+
 module _ (F : File) (d : Database) where
-  pub PTC-dec : (v : ℕ) → v < length d + length (F .views) → Decides (someRow d && hasRow (rows F d v)) (PTC F d v)
-  unfolding PTC
-  PTC-dec v l = and-dec (someRow-dec d) (by-dec
-      (λ x. (rows F d v, rows-mean F d v, x))
-      (λ x. inhabited-same (means-rows F d v (x .0) l (x .1)) (x .2))
-      (hasRow-dec (rows F d v)))
-
-  same-below : (M : ℕ → Bag) (m : IsMeaning F d M) (n : ℕ) → ((i : ℕ) → i < n → Same rowTest (M i) (rows F d i)) → (i : ℕ) → Same rowTest (below n M i) (below n (rows F d) i)
-  same-below M m = below-one F d d (same-tables d) M (rows F d) m (meaning-rows F d)
-
-  meaning-to : (M : ℕ → Bag) (m : IsMeaning F d M) (n : ℕ) → n ≤ length d + length (F .views) → (i : ℕ) → i < n → Same rowTest (M i) (rows F d i)
-  meaning-to M m = meaning-one F d d (same-tables d) M (rows F d) m (meaning-rows F d)
-
-  query-dec : (v : ℕ) (q : View) → v ≤ length d + length (F .views) → NonEmpty d
-      → Decides (hasRow (rowsOf (below v (rows F d)) q)) (PTC-query F d v q)
-  unfolding PTC-query
-  query-dec v q l ne =
-      let M₀ = rows F d in
-      let m₀ = meaning-rows F d in
-      by-dec
-      (λ x. (ne, (M₀, rowsOf (below v M₀) q, m₀, answer-rows (below v M₀) q, x)))
-      (λ x. let (M, B, m, a, y) = x .1 in
-      inhabited-same (answer-one (same-below M m v (meaning-to M m v l)) q a (answer-rows (below v M₀) q)) y)
-      (hasRow-dec (rowsOf (below v M₀) q))
-
-  -- ---- negative cases
-
-  pub query-lt : (v : ℕ) (q : View) → query (length d) F v ≡ some q → v ≤ length d + length (F .views)
-  query-lt v q e = let x = query-split (length d) F v q e in omega (arith, x .2)
-
-  module _ (ne : NonEmpty d) where
-    negative-sound : (n v : ℕ) → T (negative F d n v) → NTC F d v
-    negative-sound zero v t = absurd t
-    negative-sound (suc n) v t = go (negative-sound n) (query (length d) F v) refl t
-      where
-        go : ((i : ℕ) → T (negative F d n i) → NTC F d i) → (o : Option View) → query (length d) F v ≡ o
-            → T (refuted (below v (rows F d)) (negative F d n) o) → NTC F d v
-        go ih none e t = absurd t
-        go ih (some (View.basic fs w ss)) e t = NTC.basic e (query-dec v _ (query-lt v _ e) ne .sound t)
-        go ih (some (View.grouped fs w gs h ss)) e t = NTC.grouped e
-            (or-dec (query-dec v _ (query-lt v _ e) ne) (or-dec (query-dec v _ (query-lt v _ e) ne) (query-dec v _ (query-lt v _ e) ne)) .sound t)
-        go ih (some (View.union i j)) e t =
-            let x = and-dec (T-dec (negative F d n i)) (T-dec (negative F d n j)) .sound t in NTC.union e (ih i (x .0)) (ih j (x .1))
-        go ih (some (View.intersection i j)) e t = ⊎-elim (λ x. NTC.intersection-left e (ih i x)) (λ x. NTC.intersection-right e (ih j x))
-            (or-dec (T-dec (negative F d n i)) (T-dec (negative F d n j)) .sound t)
-
-    negative-complete : Stacked (length d) F → (n v : ℕ) → v < n → NTC F d v → T (negative F d n v)
-    negative-complete s zero v l x = absurd (omega arith)
-    negative-complete s (suc n) v l (NTC.basic e x) = rw e (query-dec v _ (query-lt v _ e) ne .complete x)
-    negative-complete s (suc n) v l (NTC.grouped e x) = rw e
-        (or-dec (query-dec v _ (query-lt v _ e) ne) (or-dec (query-dec v _ (query-lt v _ e) ne) (query-dec v _ (query-lt v _ e) ne)) .complete x)
-    negative-complete s (suc n) v l (NTC.union {i = i} {j = j} e x y) =
-        let b = both-earlier (s .earlier v (View.union i j) e) in
-        rw e (and-dec (T-dec (negative F d n i)) (T-dec (negative F d n j)) .complete (negative-complete s n i (omega arith) x, negative-complete s n j (omega arith) y))
-    negative-complete s (suc n) v l (NTC.intersection-left {i = i} {j = j} e x) =
-        let b = both-earlier (s .earlier v (View.intersection i j) e) in
-        rw e (or-dec (T-dec (negative F d n i)) (T-dec (negative F d n j)) .complete (inl (negative-complete s n i (omega arith) x)))
-    negative-complete s (suc n) v l (NTC.intersection-right {i = i} {j = j} e x) =
-        let b = both-earlier (s .earlier v (View.intersection i j) e) in
-        rw e (or-dec (T-dec (negative F d n i)) (T-dec (negative F d n j)) .complete (inr (negative-complete s n j (omega arith) x)))
-
   refuted-cong : (M : ℕ → Bag) (neg neg′ : ℕ → Bool) (v : ℕ) → ((i : ℕ) → i < v → neg i ≡ neg′ i) → (q : View) → All (λ i. i < v) (names q)
       → refuted M neg (some q) ≡ refuted M neg′ (some q)
   refuted-cong M neg neg′ v h (View.basic fs w ss) b = refl
@@ -153,12 +96,71 @@ module _ (F : File) (d : Database) where
   NTC-nonempty v (NTC.intersection-left {i = i} e x) = NTC-nonempty i x
   NTC-nonempty v (NTC.intersection-right {j = j} e x) = NTC-nonempty j x
 
+module _ (F : File) (wf : wellFormed F ≡ true) (d : Database) where
+  pub PTC-dec : (v : ℕ) → v < length d + length (F .views) → Decides (someRow d && hasRow (rows F d v)) (PTC F d v)
+  unfolding PTC
+  PTC-dec v l = and-dec (someRow-dec d) (by-dec
+      (λ x. (rows F d v, rows-mean F wf d v, x))
+      (λ x. inhabited-same (means-rows F wf d v (x .0) l (x .1)) (x .2))
+      (hasRow-dec (rows F d v)))
+
+  query-dec : (v : ℕ) (q : View) → aggregatesFit [] q ≡ true → v ≤ length d + length (F .views) → NonEmpty d
+      → Decides (hasRow (rowsOf (below v (rows F d)) q)) (PTC-query F d v q)
+  unfolding PTC-query
+  query-dec v q t l ne =
+      let M₀ = rows F d in
+      let m₀ = meaning-rows F wf d in
+      let a₀ = answer-rows (below v M₀) q t in
+      by-dec
+      (λ x. (ne, (M₀, rowsOf (below v M₀) q, m₀, a₀, x)))
+      (λ x. let (M, B, m, a, y) = x .1 in
+      inhabited-same (answer-one (below-one v (meaning-one F wf d d (same-tables d) M M₀ m m₀ v l)) q t a a₀) y)
+      (hasRow-dec (rowsOf (below v M₀) q))
+
+  -- ---- negative cases
+
+  module _ (ne : NonEmpty d) where
+    -- a view in the place of q. A negated view keeps the rule on aggregates, since its conditions hold the same expressions
+    negated-dec : (v : ℕ) {q : View} → query (length d) F v ≡ some q → (q′ : View) → (aggregatesFit [] q ≡ true → aggregatesFit [] q′ ≡ true)
+        → Decides (hasRow (rowsOf (below v (rows F d)) q′)) (PTC-query F d v q′)
+    negated-dec v e q′ same = query-dec v q′ (same (fits F wf (length d) v _ e)) (query-lt F d v _ e) ne
+
+    negative-sound : (n v : ℕ) → T (negative F d n v) → NTC F d v
+    negative-sound zero v t = absurd t
+    negative-sound (suc n) v t = go (negative-sound n) (query (length d) F v) refl t
+      where
+        go : ((i : ℕ) → T (negative F d n i) → NTC F d i) → (o : Option View) → query (length d) F v ≡ o
+            → T (refuted (below v (rows F d)) (negative F d n) o) → NTC F d v
+        go ih none e t = absurd t
+        go ih (some (View.basic fs w ss)) e t = NTC.basic e (negated-dec v e _ (λ t. t) .sound t)
+        go ih (some (View.grouped fs w gs h ss)) e t = NTC.grouped e
+            (or-dec (negated-dec v e _ (λ t. t)) (or-dec (negated-dec v e _ (λ t. t)) (negated-dec v e _ (λ t. t))) .sound t)
+        go ih (some (View.union i j)) e t =
+            let x = and-dec (T-dec (negative F d n i)) (T-dec (negative F d n j)) .sound t in NTC.union e (ih i (x .0)) (ih j (x .1))
+        go ih (some (View.intersection i j)) e t = ⊎-elim (λ x. NTC.intersection-left e (ih i x)) (λ x. NTC.intersection-right e (ih j x))
+            (or-dec (T-dec (negative F d n i)) (T-dec (negative F d n j)) .sound t)
+
+    negative-complete : Stacked (length d) F → (n v : ℕ) → v < n → NTC F d v → T (negative F d n v)
+    negative-complete s zero v l x = absurd (omega arith)
+    negative-complete s (suc n) v l (NTC.basic e x) = rw e (negated-dec v e _ (λ t. t) .complete x)
+    negative-complete s (suc n) v l (NTC.grouped e x) = rw e
+        (or-dec (negated-dec v e _ (λ t. t)) (or-dec (negated-dec v e _ (λ t. t)) (negated-dec v e _ (λ t. t))) .complete x)
+    negative-complete s (suc n) v l (NTC.union {i = i} {j = j} e x y) =
+        let b = both-earlier (s .earlier v (View.union i j) e) in
+        rw e (and-dec (T-dec (negative F d n i)) (T-dec (negative F d n j)) .complete (negative-complete s n i (omega arith) x, negative-complete s n j (omega arith) y))
+    negative-complete s (suc n) v l (NTC.intersection-left {i = i} {j = j} e x) =
+        let b = both-earlier (s .earlier v (View.intersection i j) e) in
+        rw e (or-dec (T-dec (negative F d n i)) (T-dec (negative F d n j)) .complete (inl (negative-complete s n i (omega arith) x)))
+    negative-complete s (suc n) v l (NTC.intersection-right {i = i} {j = j} e x) =
+        let b = both-earlier (s .earlier v (View.intersection i j) e) in
+        rw e (or-dec (T-dec (negative F d n i)) (T-dec (negative F d n j)) .complete (inr (negative-complete s n j (omega arith) x)))
+
   pub NTC-dec : Stacked (length d) F → (v : ℕ) → Decides (someRow d && negative F d (suc v) v) (NTC F d v)
   NTC-dec s v =
       let both = and-dec (someRow-dec d) (T-dec (negative F d (suc v) v)) in
       record {
         sound = λ t. let x = both .sound t in negative-sound (x .0) (suc v) v (x .1);
-        complete = λ x. let ne = NTC-nonempty v x in both .complete (ne, negative-complete ne s (suc v) v (omega arith) x);
+        complete = λ x. let ne = NTC-nonempty F d v x in both .complete (ne, negative-complete ne s (suc v) v (omega arith) x);
       }
 
   wanted-dec : Stacked (length d) F → (b : Bool) (v : ℕ) → v < length d + length (F .views)
@@ -173,13 +175,15 @@ module _ (F : File) (d : Database) where
       (and-dec (valid-dec F d) (wanted-dec s (g .negative) (g .view) l))
 
 -- a valid database has a list of rows for each table, so the rules on the file alone are enough
-pub file-dec : (F : File) → Stacked (length (F .tables)) F → (g : Goal) → g .view < length (F .tables) + length (F .views)
+pub file-dec : (F : File) → wellFormed F ≡ true → (g : Goal) → g .view < length (F .tables) + length (F .views)
     → (d : Database) → Decides (isCase F g d) (Case F d g)
 unfolding isCase
-file-dec F s g l d = record {
+file-dec F wf g l d = record {
   sound = λ t. over (and-dec (valid-dec F d) (T-dec (someRow d && wanted F d g)) .sound t .0) .sound t;
   complete = λ c. over (c .valid) .complete c;
 }
   where
     over : Valid F d → Decides (isCase F g d) (Case F d g)
-    over v = let n : length d ≡ length (F .tables) = each-length (v .shaped) in case-dec F d (rw n s) g (rw n l)
+    over v =
+        let n : length d ≡ length (F .tables) = each-length (v .shaped) in
+        case-dec F wf d (rw n (stacked F (rules F wf .earlier-views))) g (rw n l)

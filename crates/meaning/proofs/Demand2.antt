@@ -3,6 +3,7 @@
 use mathlib.Core.Path.{_≡_, sym, _∙_}
 use mathlib.Core.Logic.{_↔_}
 use mathlib.Core.Bool.{true}
+use mathlib.Core.List.{List}
 use Prim.Native.Nat.{ℕ, _+_, _<_}
 use lib.ListN.{length}
 use Rattle.value.specs.Bag.{count}
@@ -13,30 +14,35 @@ use Rattle.meaning.specs.Cases.{Case, isCase}
 use Rattle.meaning.specs.Evaluation.{rowTest}
 use Rattle.meaning.specs.Rows.{rows}
 use Rattle.meaning.specs.Syntax.{Database, File, Row}
-use Rattle.meaning.proofs.DecidedCases.{file-dec, stacked}
+use Rattle.meaning.proofs.DecidedCases.{file-dec}
 use Rattle.meaning.proofs.DecidedLists.{each-length, ltb-dec}
 use Rattle.meaning.proofs.Relations.{meaning-rows, means-rows, rows-permuted}
 use Rattle.meaning.proofs.RowOrder.{case-order}
 use Rattle.meaning.proofs.WellFormed.{rules}
 
--- a bag is the meaning of a relation exactly when each row occurs in it as often as in the rows in the document's order
-pub views : (F : File) (d : Database) (v : ℕ) (B : Bag) → v < length d + length (F .views)
+-- of every well-formed file and every database, a bag is the meaning of a relation exactly when each row occurs in it as often as in the
+-- rows given
+abbrev pub Views : (File → Database → ℕ → List Row) → Type 0
+Views rows = (F : File) → wellFormed F ≡ true → (d : Database) (v : ℕ) (B : Bag) → v < length d + length (F .views)
     → MeaningOf F d v B ↔ ((μ : Row) → count rowTest μ B ≡ count rowTest μ (rows F d v))
+
+-- the rows in the document's order are such
+pub views : Views rows
 unfolding MeaningOf
-views F d v B h = ((λ m. means-rows F d v B h m .at), λ e. (rows F d, meaning-rows F d, record { at = λ μ. sym (e μ) }))
+views F w d v B h = ((λ m. means-rows F w d v B h m .at), λ e. (rows F d, meaning-rows F w d, record { at = λ μ. sym (e μ) }))
 
 -- of a well-formed file any database is a case of its goal by the paper's definitions exactly when `isCase` says so
 pub cases : (F : File) → wellFormed F ≡ true → (d : Database) → Decides (isCase F (F .goal) d) (Case F d (F .goal))
-cases F w d = let r = rules F w in file-dec F (stacked F (r .earlier-views)) (F .goal) (dec-true (ltb-dec _ _) (r .goal)) d
+cases F w d = file-dec F w (F .goal) (dec-true (ltb-dec _ _) (rules F w .goal)) d
 
 -- permuting the rows of tables permutes the rows of views
-pub order : (F : File) (d d′ : Database) → SameTables d d′ → (v : ℕ) → v < length d + length (F .views)
+pub order : (F : File) → wellFormed F ≡ true → (d d′ : Database) → SameTables d d′ → (v : ℕ) → v < length d + length (F .views)
     → (μ : Row) → count rowTest μ (rows F d v) ≡ count rowTest μ (rows F d′ v)
-order F d d′ s v h = rows-permuted F d d′ s v h .at
+order F w d d′ s v h = rows-permuted F w d d′ s v h .at
 
 -- and changes no case
 pub order-case : (F : File) → wellFormed F ≡ true → (d d′ : Database) → SameTables d d′ → Case F d (F .goal) → Case F d′ (F .goal)
 order-case F w d d′ s c =
     let n : length d ≡ length (F .tables) = each-length (c .valid .shaped) in
     let g : F .goal .view < length d + length (F .views) = rw n (dec-true (ltb-dec _ _) (rules F w .goal)) in
-    dec-true (cases F w d′) (sym (case-order d d′ s F (F .goal) g) ∙ true-dec (cases F w d) c)
+    dec-true (cases F w d′) (sym (case-order d d′ s F w (F .goal) g) ∙ true-dec (cases F w d) c)

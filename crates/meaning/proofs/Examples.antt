@@ -21,9 +21,12 @@ use Rattle.meaning.proofs.Relations.{rows-mean}
 
 -- ---- short forms
 
+abbrev numbers : List ℕ → Row
+numbers ns = map (λ n. Value.number (pos n)) ns
+
 -- rows of one column
 abbrev column : List ℕ → List Row
-column ns = map (λ n. Value.number (pos n) ∷ []) ns
+column ns = map (λ n. numbers (n ∷ [])) ns
 
 abbrev a : Expr
 a = Expr.column 0 0
@@ -33,6 +36,10 @@ above n e = Cond.comparison Comparison.less (Expr.constant (pos n)) e
 
 abbrev sumOver : Expr
 sumOver = Expr.aggregate Aggregate.sum a
+
+-- over the second column
+abbrev totalOf : Aggregate → Expr
+totalOf op = Expr.aggregate op (Expr.column 0 1)
 
 abbrev digits : Column
 digits = record { lo = pos 0; hi = pos 9 }
@@ -70,8 +77,21 @@ tree =
       goal = record { view = 1; negative = false };
     }
 
+-- each of a group's aggregates over its second column, for groups of at least two members
+abbrev grouped : File
+grouped =
+    record {
+      tables = record { rows = 5; columns = digits ∷ digits ∷ []; key = false ∷ false ∷ [] } ∷ [];
+      keys = [];
+      views =
+          View.grouped (0 ∷ []) Cond.always (record { item = 0; column = 0 } ∷ []) (above 1 (totalOf Aggregate.count))
+          (a ∷ totalOf Aggregate.count ∷ totalOf Aggregate.sum ∷ totalOf Aggregate.minimum ∷ totalOf Aggregate.maximum ∷ [])
+          ∷ [];
+      goal = record { view = 1; negative = false };
+    }
+
 abbrev two : ℕ → ℕ → Row
-two m n = Value.number (pos m) ∷ Value.number (pos n) ∷ []
+two m n = numbers (m ∷ n ∷ [])
 
 samples : List Sample
 samples =
@@ -82,6 +102,19 @@ samples =
     -- a child row may be its own parent, and one that has no parent spoils the database
     ∷ record { file = tree; db = (two 1 1 ∷ two 2 1 ∷ []) ∷ []; last = column (1 ∷ 2 ∷ []); case = true }
     ∷ record { file = tree; db = (two 1 1 ∷ two 2 3 ∷ []) ∷ []; last = column (1 ∷ 2 ∷ []); case = false }
+    -- two groups, of 3 and 2 members, which alternate; then a third of one member, which having turns down
+    ∷ record {
+      file = grouped;
+      db = (two 2 5 ∷ two 1 4 ∷ two 2 3 ∷ two 1 7 ∷ two 2 5 ∷ []) ∷ [];
+      last = map numbers ((2 ∷ 3 ∷ 13 ∷ 3 ∷ 5 ∷ []) ∷ (1 ∷ 2 ∷ 11 ∷ 4 ∷ 7 ∷ []) ∷ []);
+      case = true;
+    }
+    ∷ record {
+      file = grouped;
+      db = (two 2 5 ∷ two 1 4 ∷ two 2 3 ∷ two 1 7 ∷ two 3 9 ∷ []) ∷ [];
+      last = map numbers ((2 ∷ 2 ∷ 8 ∷ 3 ∷ 5 ∷ []) ∷ (1 ∷ 2 ∷ 11 ∷ 4 ∷ 7 ∷ []) ∷ []);
+      case = true;
+    }
     ∷ []
 
 -- ---- the theorem
@@ -107,13 +140,13 @@ Computed s =
 
 right : (s : Sample) → Computed s → Right s
 unfolding Computed Right
-right s (w, r, c) = let F = s .file in (rw r at (rows-mean F (s .db) (F .goal .view)), decided (cases F w (s .db)) (s .case) c)
+right s (w, r, c) = let F = s .file in (rw r at (rows-mean F w (s .db) (F .goal .view)), decided (cases F w (s .db)) (s .case) c)
 
 computed : All Computed samples
 unfolding samples Computed isCase valid someRow wellFormed compare sure holds negate sameValue between start weight more finish minZ maxZ
 computed =
-    All.cons (refl, refl, refl) (All.cons (refl, refl, refl) (All.cons (refl, refl, refl)
-    (All.cons (refl, refl, refl) (All.cons (refl, refl, refl) All.nil))))
+    All.cons (refl, refl, refl) (All.cons (refl, refl, refl) (All.cons (refl, refl, refl) (All.cons (refl, refl, refl)
+    (All.cons (refl, refl, refl) (All.cons (refl, refl, refl) (All.cons (refl, refl, refl) All.nil))))))
 
 samples-right : All Right samples
 samples-right = all-map right computed

@@ -11,17 +11,18 @@ pub mod ListSteps
 pub mod Sizes
 pub mod Stacks
 -- demand 2: views are the algebra's, cases the paper's, and the order of rows does not count
+pub mod WellFormed
 pub mod Alike
+pub mod Spread
 pub mod Operations
 pub mod Relations
 pub mod DecidedValidity
 pub mod DecidedCases
 pub mod RowOrder
-pub mod WellFormed
 pub mod Demand2
 pub mod PaperFacts
+pub mod RefutedRows
 -- ranges hold every value, and 32 bits every result
-pub mod Spread
 pub mod RangeOfValue
 pub mod ViewRanges
 pub mod RangesHold

@@ -11,6 +11,7 @@ use Rattle.value.specs.Value.{size, valueTest, within}
 use Rattle.value.proofs.Bags.{nil-only, pulled, same-tail}
 use Rattle.value.proofs.Decides.{by-test, and-cross}
 use Rattle.meaning.specs.Algebra.{Bag, SameTables, below, query}
+use Rattle.meaning.specs.Bounds.{aggregatesFit, wellFormed}
 use Rattle.meaning.specs.Cases.{hasRow, isCase, negative, refuted, someRow}
 use Rattle.meaning.specs.Evaluation.{rowTest}
 use Rattle.meaning.specs.Lists.{all, any, each, isPos, pairwise}
@@ -20,7 +21,7 @@ use Rattle.meaning.specs.Valid.{agrees, differ, foreignKeyHolds, inRange
 use Rattle.meaning.proofs.DecidedCases.{query-lt}
 use Rattle.meaning.proofs.ListBags.{all-bag, and-swap, any-bag, length-bag, same-comm}
 use Rattle.meaning.proofs.Operations.{rows-one}
-use Rattle.meaning.proofs.Relations.{below-one, meaning-rows, rows-permuted}
+use Rattle.meaning.proofs.Relations.{below-one, fits, rows-permuted}
 
 -- a test of each pair that does not see their order
 module _ {A : Type 0} (E : Test A) (p : A → A → Bool) (p-comm : (a b : A) → p a b ≡ p b a) where
@@ -86,12 +87,10 @@ module _ (d d′ : Database) (s : SameTables d d′) where
       ap₂ _&&_ (each-order inRange inRange-order (F .tables) d d′ s)
       (ap₂ _&&_ (each-order keyHolds key-order (F .tables) d d′ s) (ap (λ p. all p (F .keys)) (fun-ext foreign-order)))
 
-  module _ (F : File) where
-    below-order : (v : ℕ) → v ≤ length d + length (F .views) → (i : ℕ) → Same rowTest (below v (rows F d) i) (below v (rows F d′) i)
-    below-order v l = below-one F d d′ s (rows F d) (rows F d′) (meaning-rows F d) (meaning-rows F d′) v (λ i h. rows-permuted F d d′ s i (omega arith))
-
-    query-order : (v : ℕ) (q : View) → v ≤ length d + length (F .views) → hasRow (rowsOf (below v (rows F d)) q) ≡ hasRow (rowsOf (below v (rows F d′)) q)
-    query-order v q l = ap isPos (length-bag (rows-one (below-order v l) q))
+  module _ (F : File) (wf : wellFormed F ≡ true) where
+    query-order : (v : ℕ) (q : View) → aggregatesFit [] q ≡ true → v ≤ length d + length (F .views)
+        → hasRow (rowsOf (below v (rows F d)) q) ≡ hasRow (rowsOf (below v (rows F d′)) q)
+    query-order v q t l = ap isPos (length-bag (rows-one (below-one v (λ i h. rows-permuted F wf d d′ s i (omega arith))) q t))
 
     negative-order : (n v : ℕ) → negative F d n v ≡ negative F d′ n v
     negative-order zero v = refl
@@ -100,15 +99,17 @@ module _ (d d′ : Database) (s : SameTables d d′) where
         go : ((i : ℕ) → negative F d n i ≡ negative F d′ n i) → (o : Option View) → query (length d) F v ≡ o
             → refuted (below v (rows F d)) (negative F d n) o ≡ refuted (below v (rows F d′)) (negative F d′ n) o
         go ih none e = refl
-        go ih (some (View.basic fs w ss)) e = query-order v (View.basic fs (Cond.negated w) ss) (query-lt F d v (View.basic fs w ss) e)
+        go ih (some (View.basic fs w ss)) e =
+            query-order v (View.basic fs (Cond.negated w) ss) (fits F wf (length d) v (View.basic fs w ss) e) (query-lt F d v (View.basic fs w ss) e)
         go ih (some (View.grouped fs w gs h ss)) e =
+            let t = fits F wf (length d) v (View.grouped fs w gs h ss) e in
             let l = query-lt F d v (View.grouped fs w gs h ss) e in
-            ap₂ _||_ (query-order v (View.grouped fs (Cond.negated w) gs h ss) l)
-            (ap₂ _||_ (query-order v (View.grouped fs w gs (Cond.negated h) ss) l) (query-order v (View.grouped fs (Cond.negated w) gs (Cond.negated h) ss) l))
+            ap₂ _||_ (query-order v (View.grouped fs (Cond.negated w) gs h ss) t l)
+            (ap₂ _||_ (query-order v (View.grouped fs w gs (Cond.negated h) ss) t l) (query-order v (View.grouped fs (Cond.negated w) gs (Cond.negated h) ss) t l))
         go ih (some (View.union i j)) e = ap₂ _&&_ (ih i) (ih j)
         go ih (some (View.intersection i j)) e = ap₂ _||_ (ih i) (ih j)
 
     pub case-order : (g : Goal) → g .view < length d + length (F .views) → isCase F g d ≡ isCase F g d′
     unfolding isCase
     case-order g l = let v = g .view in
-        rw (valid-order F, someRow-order d d′ s, negative-order (suc v) v, length-bag (rows-permuted F d d′ s v l))
+        rw (valid-order F, someRow-order d d′ s, negative-order (suc v) v, length-bag (rows-permuted F wf d d′ s v l))

@@ -15,13 +15,14 @@ use Rattle.range.specs.declared.Range.{Range}
 use Rattle.range.proofs.Soundness.{constant-inside, hull-left, hull-right}
 use Rattle.meaning.specs.Lists.{Any, Each, all, keep, combinations}
 use Rattle.meaning.specs.Syntax.{Expr, Cond, View, Place, Row, Combination}
-use Rattle.meaning.specs.Evaluation.{rowTest, missing, alone, satisfies, selected}
-use Rattle.meaning.specs.Rows.{keyOf, keys, together, kept, rowsOf}
+use Rattle.meaning.specs.Evaluation.{rowTest, missing, alone, satisfies, selected, keyOf}
+use Rattle.meaning.specs.Rows.{keys, together, kept, rowsOf}
 use Rattle.meaning.specs.Bounds.{Schema, schema, itemRanges, productBound, withinE, withinC, hulls, viewSchema, names, sameWidth, allowedE, allowedC, anyColumn, groupingColumn, aggregatesFit, rangesFit}
 use Rattle.meaning.specs.Clear.{BasicClear, Chosen, GroupedClear, ViewClear, InBounds}
 use Rattle.meaning.proofs.Elements.{all-image, all-append, all-keep, all-common, all-self, all-from, any-all, each-at, each-images, all-combinations}
 use Rattle.meaning.proofs.Sizes.{combinations-bound, length-keep, length-firsts, length-common}
 use Rattle.meaning.proofs.Spread.{spread-cell, key-members, group-member}
+use Rattle.meaning.proofs.WellFormed.{group-fits}
 use Rattle.meaning.proofs.RangeOfValue.{Covered, ScopeCovered, alone-covered, selected-inside, selected-clear, clear-condition}
 
 -- ---- what a view keeps of the product
@@ -125,11 +126,9 @@ module _ (ss : List Schema) (M : ℕ → List Row) where
       let I = itemRanges ss fs in
       let R = productBound ss fs in
       let S = kept M fs w in
-      let (b, c) = and-parts (allowedC anyColumn false w) (allowedC (groupingColumn gs) true h && all (allowedE (groupingColumn gs) true) es) a in
-      let (d, e) = and-parts (allowedC (groupingColumn gs) true h) (all (allowedE (groupingColumn gs) true) es) c in
       let chosen = keep-chosen (λ m. satisfies w (alone M m)) (combinations (map M fs)) in
       all-image (λ k. selected es (together M gs S k))
-      (λ k m. selected-inside I R (groupingColumn gs) true (together M gs S k) (together-covered n gs chosen k m) es e)
+      (λ k m. selected-inside I R (groupingColumn gs) true (together M gs S k) (together-covered n gs chosen k m) es (group-fits w gs h es a .select))
       (all-keep (λ k. satisfies h (together M gs S k)) (key-members gs S))
   view-values (View.union i j) (All.cons l (All.cons r All.nil)) s a =
       let e = dec-true (eqb-dec (length (schema ss i .ranges)) (length (schema ss j .ranges))) s in
@@ -153,14 +152,13 @@ module _ (ss : List Schema) (M : ℕ → List Row) where
   view-clear (View.grouped fs w gs h es) n a r =
       let I = itemRanges ss fs in
       let R = productBound ss fs in
-      let (a₁, a′) = and-parts (allowedC anyColumn false w) (allowedC (groupingColumn gs) true h && all (allowedE (groupingColumn gs) true) es) a in
-      let (a₂, a₃) = and-parts (allowedC (groupingColumn gs) true h) (all (allowedE (groupingColumn gs) true) es) a′ in
+      let f = group-fits w gs h es a in
       let (r₁, r′) = and-parts (withinC I R w) (withinC I R h && all (withinE I R) es) r in
       let (r₂, r₃) = and-parts (withinC I R h) (all (withinE I R) es) r′ in
       record {
-        condition = all-map (λ m h. clear-condition I R anyColumn false (alone M m) (alone-covered I R M m h) w a₁ r₁) (combinations-covered n);
-        having = λ {S} x. all-map (λ k m. clear-condition I R (groupingColumn gs) true (together M gs S k) (together-covered n gs x k m) h a₂ r₂) (key-members gs S);
-        select = λ {S} x. all-map (λ k m. selected-clear I R (groupingColumn gs) true (together M gs S k) (together-covered n gs x k m) es a₃ r₃) (key-members gs S);
+        condition = all-map (λ m h. clear-condition I R anyColumn false (alone M m) (alone-covered I R M m h) w (f .condition) r₁) (combinations-covered n);
+        having = λ {S} x. all-map (λ k m. clear-condition I R (groupingColumn gs) true (together M gs S k) (together-covered n gs x k m) h (f .having) r₂) (key-members gs S);
+        select = λ {S} x. all-map (λ k m. selected-clear I R (groupingColumn gs) true (together M gs S k) (together-covered n gs x k m) es (f .select) r₃) (key-members gs S);
       }
   view-clear (View.union i j) n a r = tt
   view-clear (View.intersection i j) n a r = tt

@@ -84,7 +84,7 @@ by-algebra {F} {d} w E =
     let decided = cases F w d in
     record {
       verdict = ((λ q. dec-true decided (one-true (isCase F (F .goal) d) (E .verdict) q)), λ c. E .verdict ∙ ap (λ b. cond b 1 0) (true-dec decided c));
-      relation = λ i h. subst (MeaningOf F d i) (sym (E .relation i h)) (rows-mean F d i);
+      relation = λ i h. subst (MeaningOf F d i) (sym (E .relation i h)) (rows-mean F w d i);
     }
 
 -- what `sakthveim_evaluate` promises of an accepted text, said by the algebra
