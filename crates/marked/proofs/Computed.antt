@@ -1,5 +1,5 @@
 -- What an entry says follows from equations of what computes. Assumes nothing.
-use mathlib.Core.Path.{_≡_}
+use mathlib.Core.Path.{_≡_, ap, _∙_}
 use mathlib.Core.Bool.{true, cond}
 use mathlib.Core.List.{List, _++_, map}
 use Prim.Native.Nat.{ℕ, _+_, _≤_}
@@ -17,13 +17,15 @@ use Rattle.meaning.specs.Rows.{rows}
 use Rattle.meaning.specs.Valid.{valid}
 use Rattle.meaning.specs.Cases.{isCase, someRow}
 use Rattle.meaning.specs.Candidates.{cellCount, candidates, cells, database}
-use Rattle.meaning.specs.Look.{Answer, After, workSize, refusal, zeros, candidate, searched, look}
+use Rattle.meaning.specs.Look.{Answer, After, answerIn, workSize, refusal, zeros, candidate, searched, look}
 use Rattle.meaning.proofs.DecidedLists.{ltb-dec}
+use Rattle.meaning.proofs.OneLook.{passes-over-none}
 use Rattle.meaning.proofs.Relations.{rows-mean}
 use Rattle.text.specs.Text.{framesOf, linesOf, run, step, digit as hexValue, textOf, line, hex, hexDigit}
 use Rattle.rules.specs.Check.{Outcome, checkFrame, checkFrames}
 use Rattle.rules.specs.FileOf.{fileOf}
-use Rattle.look.proofs.RealLooks.{look-of-text, any-start}
+use Rattle.look.specs.Looks.{lookOf}
+use Rattle.look.proofs.RealLooks.{look-of-text, look-says}
 use Rattle.report.specs.Output.{numberBytes, tableFrame, searchedAll, outputOf}
 use Rattle.marked.specs.Table.{Entry, Gives, Judges, Right}
 
@@ -42,13 +44,15 @@ module _ (text : List ℕ) (F : File) (e : fileOf text ≡ Outcome.accepted F) (
   gives : ((work inst : List ℤ) → fitting F s c work inst ≡ After.after a (zeros work) (shows ++ drop (length shows) inst)) → Gives text s c a shows F
   gives f work inst h i = rw (look-of-text text F e, look-fits F s c work inst h i) (f work inst)
 
-  -- by the law on looks from any start, at some buffers that are long enough
+  -- by what a look from any start says, at some buffers that are long enough
   judges : Gives text s c a shows F → Judges s a F
   judges g =
       let work = replicate workSize (pos 0) in
       let inst = replicate (cellCount F) (pos 0) in
       let q = g work inst (omega (arith, length-replicate workSize (pos 0))) (omega (arith, length-replicate (cellCount F) (pos 0))) in
-      (any-start text F e .none s c work inst a _ _ q, λ k l. any-start text F e .hit s c work inst k _ _ (rw l at q) .2)
+      let says = look-says text F e in
+      let answer : answerIn (lookOf text s c work inst) ≡ a = ap answerIn q in
+      (rw answer at (passes-over-none F (lookOf text) says s c work inst), λ k l. says s c work inst .case-when k .0 (answer ∙ l) .1 .hit)
 
 -- ---- an entry
 

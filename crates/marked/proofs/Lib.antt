@@ -3,3 +3,4 @@
 pub mod Computed
 -- the theorem
 pub mod Marked
+pub mod LaterStart
