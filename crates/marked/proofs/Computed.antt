@@ -1,5 +1,5 @@
 -- What an entry says follows from equations of what computes. Assumes nothing.
-use mathlib.Core.Path.{_≡_}
+use mathlib.Core.Path.{_≡_, ap, _∙_}
 use mathlib.Core.Bool.{true, cond}
 use mathlib.Core.List.{List, [], _∷_, _++_, map}
 use Prim.Native.Nat.{ℕ, _+_, _≤_}
@@ -21,15 +21,16 @@ use Rattle.meaning.specs.Bounds.{schema, schemas}
 use Rattle.meaning.specs.Valid.{valid}
 use Rattle.meaning.specs.Cases.{isCase, someRow}
 use Rattle.meaning.specs.Candidates.{cellCount, candidates, cells, database}
-use Rattle.meaning.specs.Look.{Answer, After, workSize, refusal, zeros, candidate, searched, look}
+use Rattle.meaning.specs.Look.{Answer, After, answerIn, workSize, refusal, zeros, candidate, searched, look}
 use Rattle.meaning.specs.Looks.{Ask, NoDatabase}
 use Rattle.meaning.proofs.DecidedLists.{ltb-dec}
+use Rattle.meaning.proofs.OneLook.{passes-over-none}
 use Rattle.meaning.proofs.Relations.{rows-mean}
 use Rattle.text.specs.Text.{framesOf, linesOf, run, step, digit as hexValue, textOf, line, hex, hexDigit}
 use Rattle.rules.specs.Check.{Outcome, checkFrame, checkFrames}
 use Rattle.rules.specs.FileOf.{fileOf}
 use Rattle.rules.proofs.TextLaws.{accepted-text}
-use Rattle.look.proofs.RealLooks.{look-of-text, demand-3, any-start}
+use Rattle.look.proofs.RealLooks.{look-of-text, demand-3, look-says}
 use Rattle.look.specs.Looks.{lookOf}
 use Rattle.report.specs.Output.{numberBytes, tableFrame, searchedAll, outputOf}
 use Rattle.report.specs.Lines.{outputRoom, Printed}
@@ -57,14 +58,16 @@ module _ (text : List ℕ) (F : File) (e : fileOf text ≡ Outcome.accepted F) (
       let q0 : lookOf text 0 c work inst ≡ After.after Answer.noCase w i = rw (z, n) at q in
       demand-3 text F e (ask ∷ []) .no-case-when .0 (rw q0) .1
 
-  -- by the law on looks from any start, at some buffers that are long enough
+  -- by what a look from any start says, at some buffers that are long enough
   judges : Gives text s c a shows F → Judges s a F
   judges g =
       let work = replicate workSize (pos 0) in
       let inst = replicate (cellCount F) (pos 0) in
-      let q = g work inst (omega (arith, length-replicate workSize (pos 0))) (omega (arith, length-replicate (cellCount F) (pos 0))) in (
-        any-start text F e .none s c work inst a _ _ q,
-        λ k l. any-start text F e .hit s c work inst k _ _ (rw l at q) .2,
+      let q = g work inst (omega (arith, length-replicate workSize (pos 0))) (omega (arith, length-replicate (cellCount F) (pos 0))) in
+      let says = look-says text F e in
+      let answer : answerIn (lookOf text s c work inst) ≡ a = ap answerIn q in (
+        rw answer at (passes-over-none F (lookOf text) says s c work inst),
+        λ k l. says s c work inst .case-when k .0 (answer ∙ l) .1 .hit,
         λ z n. no-database work inst _ _ z n q,
       )
 

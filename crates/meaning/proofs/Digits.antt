@@ -9,11 +9,11 @@ use lib.Arith.{digits-div, mod-mul}
 use lib.ListN.{length, take, drop}
 use lib.Signed.{_≤ℤ_}
 use Rattle.value.specs.Bag.{All}
-use Rattle.value.specs.Value.{Value, Column, Within, size, digit}
+use Rattle.value.specs.Value.{Value, Column, Within, size, digit, digitOf}
 use Rattle.value.proofs.Order.{≤-self}
-use Rattle.value.proofs.Values.{between-self, between-wider, digit-within, within-digit, digit-back, digitOf}
+use Rattle.value.proofs.Values.{between-self, between-wider, digit-within, within-digit, digit-back}
 use Rattle.meaning.specs.Lists.{Each}
-use Rattle.meaning.specs.Candidates.{product, values}
+use Rattle.meaning.specs.Candidates.{product, values, number}
 
 -- "lo ≤ hi"
 abbrev pub Ascending : Column → Type 0
@@ -46,12 +46,6 @@ values-shift (All.cons {x = c} {xs = cs} h hs) d k =
     rw (← mul-assoc d (size c) (product cs), values-shift hs (d * size c) k, q, mul-add-mod-self-right d (size c) (k / product cs))
 
 -- ---- and back
-
--- the number of some cells
-abbrev pub number : List Column → List Value → ℕ
-number [] vs = 0
-number (c ∷ cs) [] = 0
-number (c ∷ cs) (v ∷ vs) = digitOf c v * product cs + number cs vs
 
 pub number-values : {cs : List Column} → All Ascending cs → (k : ℕ) → number cs (values cs k) ≡ k % product cs
 number-values All.nil k = sym (mod-one k)

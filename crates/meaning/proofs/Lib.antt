@@ -30,7 +30,9 @@ pub mod RangesHold
 pub mod Digits
 pub mod Numbering
 pub mod Seeks
+pub mod OneLook
 pub mod ListOfLooks
-pub mod RefutedLooks
+pub mod Stretches
 pub mod Demand3
+pub mod RefutedLooks
 pub mod Examples

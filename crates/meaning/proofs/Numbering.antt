@@ -4,24 +4,23 @@ use mathlib.Core.Path.{_≡_, refl, sym, ap, _∙_, subst}
 use mathlib.Core.Bool.{true}
 use mathlib.Core.List.{List, [], _∷_, _++_, map, append-assoc}
 use Prim.Native.Nat.{ℕ, zero, suc, _*_, _<_}
-use native.Mathlib.Nat.{suc-mul, zero-mul, add-comm}
+use native.Mathlib.Nat.{suc-mul, zero-mul, add-comm, mod-eq-of-lt}
 use native.Mathlib.Omega.{arith}
 use lib.Signed.{leZ}
 use lib.ListN.{length, take, drop, length-append, take-append-drop}
 use lib.Seq.{take-add, drop-drop, take-at, drop-at}
 use Rattle.value.specs.Bag.{All}
 use Rattle.value.specs.Value.{Value, Column, Within}
-use Rattle.value.proofs.Decides.{and-parts}
 use Rattle.value.proofs.Linear.{leZ-true}
 use Rattle.value.proofs.Values.{all-map}
 use Rattle.meaning.specs.Lists.{Each, all, copies, joined}
 use Rattle.meaning.specs.Syntax.{Table, File, Row, Database}
 use Rattle.meaning.specs.Valid.{InRange}
 use Rattle.meaning.specs.Bounds.{ordered}
-use Rattle.meaning.specs.Candidates.{cellColumns, values, cutRows, cut, cellCount, candidates, cells, database, Numbered}
-use Rattle.meaning.proofs.Elements.{all-append, each-append}
+use Rattle.meaning.specs.Candidates.{cellColumns, product, values, number, cutRows, cut, cellCount, candidates, cells, database, Numbered}
+use Rattle.meaning.proofs.Elements.{all-append, all-test, each-append}
 use Rattle.meaning.proofs.DecidedLists.{each-length}
-use Rattle.meaning.proofs.Digits.{Ascending, product-above, length-values, values-within, number, number-below, values-number, values-unique}
+use Rattle.meaning.proofs.Digits.{Ascending, product-above, length-values, values-within, number-values, number-below, values-number, values-unique}
 
 -- ---- the columns of the cells are ordered where those of the tables are
 
@@ -29,17 +28,16 @@ pub all-copies : {A : Type 0} {P : A → Type 0} {xs : List A} (n : ℕ) → All
 all-copies zero p = All.nil
 all-copies (suc n) p = all-append p (all-copies n p)
 
+-- what holds of the columns of the tables holds of those of the cells
+pub all-cells : {P : Column → Type 0} {ts : List Table} → All (λ t. All P (t .columns)) ts → All P (cellColumns ts)
+all-cells All.nil = All.nil
+all-cells (All.cons {x = t} p ps) = all-append (all-copies (t .rows) p) (all-cells ps)
+
 columns-ascend : (cs : List Column) → all (λ c. leZ (c .lo) (c .hi)) cs ≡ true → All Ascending cs
-columns-ascend [] e = All.nil
-columns-ascend (c ∷ cs) e =
-    let h = and-parts (leZ (c .lo) (c .hi)) (all (λ c. leZ (c .lo) (c .hi)) cs) e in
-    All.cons (leZ-true (c .lo) (c .hi) (h .0)) (columns-ascend cs (h .1))
+columns-ascend cs e = all-map (λ c h. leZ-true (c .lo) (c .hi) h) (all-test (λ c. leZ (c .lo) (c .hi)) cs e)
 
 pub cells-ascend : (ts : List Table) → all ordered ts ≡ true → All Ascending (cellColumns ts)
-cells-ascend [] e = All.nil
-cells-ascend (t ∷ ts) e =
-    let h = and-parts (ordered t) (all ordered ts) e in
-    all-append (all-copies (t .rows) (columns-ascend (t .columns) (h .0))) (cells-ascend ts (h .1))
+cells-ascend ts e = all-cells (all-map (λ t h. columns-ascend (t .columns) h) (all-test ordered ts e))
 
 -- ---- two lists, element by element
 
@@ -127,6 +125,11 @@ module _ (F : File) where
   unfolding cells
   length-cells k = length-values (cellColumns (F .tables)) k
 
+  -- the cells of a candidate lie in their columns
+  pub cells-within : all ordered (F .tables) ≡ true → (k : ℕ) → Each Within (cellColumns (F .tables)) (cells F k)
+  unfolding cells
+  cells-within o k = values-within (cells-ascend (F .tables) o) k
+
   pub candidates-above : all ordered (F .tables) ≡ true → 0 < candidates F
   unfolding candidates
   candidates-above o = product-above (cells-ascend (F .tables) o)
@@ -140,4 +143,5 @@ module _ (F : File) where
         shaped = λ k. cut-shaped (F .tables) (values-within hs k);
         candidate = λ d s. let w = flat-within s in (number cs (flat d), number-below w, rw (values-number hs w) (cut-flat s));
         unique = λ j k hj hk e. values-unique hs j k hj hk (sym (flat-cut (F .tables) (values-within hs j)) ∙ ap flat e ∙ flat-cut (F .tables) (values-within hs k));
+        order = λ k h. number-values hs k ∙ mod-eq-of-lt h;
       }

@@ -1,130 +1,42 @@
--- Wrong looks, of none of which demand 3 holds: a file of one cell with the values 0, 1 and 2, whose view keeps what is above 0, so that
--- the first case is candidate 1. A look that refuses always is refuted by what is said of fitting calls: a list without accepted looks
--- claims nothing. Assumes nothing.
-use mathlib.Core.Path.{_≡_, refl, subst}
-use mathlib.Core.Bool.{Bool, true, false, cond, _&&_}
+-- Wrong looks, of none of which demand 3 holds, each refuted by computation on a small file: by what is said of every list of looks, or of
+-- every look by itself. Assumes nothing.
+use mathlib.Core.Path.{_≡_, refl, ap}
+use mathlib.Core.Bool.{true, false, cond, not, _&&_, _||_}
 use mathlib.Core.List.{List, [], _∷_}
-use mathlib.Core.Option.{none, some}
-use Prim.Native.Nat.{ℕ, zero, suc, _+_, _*_, _-_, _≤_, _<_, min}
+use Prim.Native.Nat.{ℕ, _+_, _-_, _/_, _%_, _≤_, _<_, min}
 use native.Mathlib.Omega.{arith}
-use borrow.Author.Tests.{le-ltb}
-use lib.Dec.{T, eqb}
+use lib.Dec.{eqb, ltb}
 use lib.IntN.{ℤ, pos}
-use lib.ListN.{getD, replicate}
-use Rattle.value.specs.Bag.{All, tick, count, Same}
-use Rattle.value.specs.Value.{Value, Comparison, size, digit, shown, compare, sure, holds, between, sameValue}
-use Rattle.value.proofs.Decides.{by-test}
-use Rattle.meaning.specs.Lists.{Any, Each, gate}
-use Rattle.meaning.specs.Syntax.{Expr, Cond, View, File, Row, Combination, Database}
-use Rattle.meaning.specs.Evaluation.{rowTest, combinationTest, alone, satisfies}
-use Rattle.meaning.specs.Algebra.{Bag, times, below, query, Means, MeaningOf}
+use lib.ListN.{take, getD, replicate}
+use Rattle.value.specs.Integer.{minZ, maxZ}
+use Rattle.value.specs.Value.{Value, Column, Comparison, size, digit, digitOf, shown, compare, sure, holds, between, sameValue}
+use Rattle.value.proofs.Decides.{dec-true}
+use Rattle.value.proofs.Values.{cell-number}
+use Rattle.meaning.specs.Syntax.{Expr, Cond, View, File}
 use Rattle.meaning.specs.Valid.{valid}
-use Rattle.meaning.specs.Cases.{PTC, isCase, someRow}
-use Rattle.meaning.specs.Candidates.{candidates, cells, database}
-use Rattle.meaning.specs.Look.{Answer, After, zeros, candidate, shownIn, look}
-use Rattle.meaning.specs.Looks.{Ask, Look, CaseAt, EveryList, PassesOverNone, Zeroes, RefusedUnchanged, AcceptsFitting}
-use Rattle.meaning.proofs.Numbering.{numbered}
-use Rattle.meaning.proofs.ListOfLooks.{apart}
+use Rattle.meaning.specs.Cases.{isCase, someRow}
+use Rattle.meaning.specs.Bounds.{wellFormed}
+use Rattle.meaning.specs.Candidates.{cellColumns, number, candidates, cells, database}
+use Rattle.meaning.specs.Look.{Answer, After, seek, zeros, candidate, shownIn, verdict, look}
+use Rattle.meaning.specs.Looks.{Look, CaseAt, Fits, Begins, EveryLook, RefusedUnchanged, Ask, EveryList}
+use Rattle.meaning.proofs.DecidedLists.{cons-each}
+use Rattle.meaning.proofs.Demand2.{cases}
+use Rattle.meaning.proofs.OneLook.{apart}
 
-abbrev condition : Cond
-condition = Cond.comparison Comparison.less (Expr.constant (pos 0)) (Expr.column 0 0)
-
-abbrev view : View
-view = View.basic (0 ∷ []) condition (Expr.column 0 0 ∷ [])
-
+-- one cell with the values 0, 1 and 2, of which the view keeps what is above 0: the first case is candidate 1
 abbrev tiny : File
 tiny = record {
   tables = record { rows = 1; columns = record { lo = pos 0; hi = pos 2 } ∷ []; key = false ∷ [] } ∷ [];
   keys = [];
-  views = view ∷ [];
+  views = View.basic (0 ∷ []) (Cond.comparison Comparison.less (Expr.constant (pos 0)) (Expr.column 0 0)) (Expr.column 0 0 ∷ []) ∷ [];
   goal = record { view = 1; negative = false };
 }
 
--- ---- candidate 1 is a case by the paper's definitions
-
-abbrev one-row : Row
-one-row = Value.number (pos 1) ∷ []
-
-abbrev one-database : Database
-one-database = (one-row ∷ []) ∷ []
-
--- the table and the view both hold the one row
-abbrev meaning : ℕ → Bag
-meaning zero = one-row ∷ []
-meaning (suc zero) = one-row ∷ []
-meaning (suc (suc n)) = []
-
-alone-one : (b : Bool) → tick (b && true) 0 ≡ tick b 0 * 1
-alone-one true = refl
-alone-one false = refl
-
-more-none : (b : Bool) → tick (b && false) 0 ≡ tick b 0 * 0
-more-none true = refl
-more-none false = refl
-
-gate-none : (b : Bool) → 0 ≡ gate b 0
-gate-none true = refl
-gate-none false = refl
-
-product-at : (μ : Combination) → count combinationTest μ ((one-row ∷ []) ∷ []) ≡ times ((one-row ∷ []) ∷ []) μ
-product-at [] = refl
-product-at (r ∷ []) = alone-one (rowTest .same r one-row)
-product-at (r ∷ s ∷ m) = more-none (rowTest .same r one-row)
-
-kept-one : (M : ℕ → Bag) → satisfies condition (alone M (one-row ∷ [])) ≡ true
-unfolding compare sure holds
-kept-one M = refl
-
-selection-at : (M : ℕ → Bag) (μ : Combination)
-    → count combinationTest μ ((one-row ∷ []) ∷ []) ≡ gate (satisfies condition (alone M μ)) (count combinationTest μ ((one-row ∷ []) ∷ []))
-selection-at M μ = by-test (combinationTest .same μ (one-row ∷ []))
-    (λ e. let same : μ ≡ one-row ∷ [] = combinationTest .sound μ (one-row ∷ []) e in rw same (rw (kept-one M)))
-    (λ e. rw e (gate-none (satisfies condition (alone M μ))))
-
-view-means : (v : ℕ) (q : View) → query 1 tiny v ≡ some q → Means (below v meaning) q (meaning v)
-unfolding Means
-view-means zero q e = apart (cc)
-view-means (suc zero) q e =
-    let same : view ≡ q = cc in
-    subst (λ (r : View). Means (below 1 meaning) r (one-row ∷ [])) same (
-      (one-row ∷ []) ∷ [],
-      (one-row ∷ []) ∷ [],
-      record { at = product-at },
-      record { at = selection-at (below 1 meaning) },
-      record { at = λ μ. refl },
-    )
-view-means (suc (suc n)) q e =
-    let m : suc (suc n) - 1 ≡ suc n = omega arith in
-    let e′ : none ≡ some q = rw (le-ltb (suc (suc n)) 1 (omega arith), m) at e in
-    apart (cc)
-
-table-means : (t : ℕ) → t < 1 → Same rowTest (meaning t) (getD one-database t [])
-table-means zero h = record { at = λ μ. refl }
-table-means (suc t) h = absurd (omega arith)
-
-no-key : Any T (false ∷ []) → ⊥
-no-key (Any.here t) = t
-no-key (Any.there a) = absurd (elim a [ ])
-
-wanted : PTC tiny one-database 1
-unfolding PTC MeaningOf sameValue
-wanted = (
-  Any.here {x = one-row ∷ []} (omega arith),
-  (one-row ∷ [], (meaning, record { table = table-means; view = view-means }, record { at = λ μ. refl }), (one-row, omega arith)),
-)
-
 case-1 : CaseAt tiny 1
-unfolding database cells size digit
-case-1 = record {
-  valid = record {
-    shaped = numbered tiny refl .shaped 1;
-    primary = Each.cons (record { apart = λ a. absurd (no-key a) }) Each.nil;
-    foreign = All.nil;
-  };
-  wanted = wanted;
-}
+unfolding wellFormed isCase valid someRow database cells size digit compare sure holds between sameValue minZ maxZ
+case-1 = dec-true (cases tiny refl (database tiny 1)) refl
 
--- ---- wrong looks
+-- ---- by every list of looks
 
 abbrev ask : ℕ → Ask
 ask n = record { count = n; work = replicate 9216 (pos 0); inst = pos 7 ∷ [] }
@@ -181,56 +93,86 @@ pub not-hasty : EveryList tiny hasty → ⊥
 unfolding look candidate isCase valid someRow candidates database cells size digit compare sure holds between sameValue
 not-hasty lists = let l : 3 ≤ 1 = lists (ask 1 ∷ []) .no-case-when .0 refl .0 in omega arith
 
--- leaves another instance buffer
-abbrev with-inst : (List ℤ → List ℤ) → Look
-with-inst f start count work inst = go (look tiny start count work inst)
-  where
-    go : After → After
-    go (After.after a w i) = After.after a w (f inst)
+-- leaves other buffers
+abbrev with-buffers : (List ℤ → List ℤ) → (List ℤ → List ℤ) → After → After
+with-buffers f g (After.after a w i) = After.after a (f w) (g i)
 
 -- shows candidate 0 whatever it found
 abbrev always-0 : Look
-always-0 = with-inst (shownIn tiny 0)
+always-0 start count work inst = with-buffers (λ w. w) (λ _. shownIn tiny 0 inst) (look tiny start count work inst)
+
+-- a buffer of one number that begins with the cell of candidate 1 holds 1
+begins-1 : {z : ℤ} {inst : List ℤ} → Begins tiny 1 inst (z ∷ []) → z ≡ pos 1
+unfolding cells size digit
+begins-1 {z} b = let e : Value.number (pos 1) ≡ Value.number z = cell-number (cons-each (b .front) .0) in cc
 
 pub not-always-0 : EveryList tiny always-0 → ⊥
 unfolding look candidate isCase valid someRow candidates database cells size digit shown compare sure holds between sameValue
-not-always-0 lists =
-    let e : pos 0 ∷ [] ≡ pos 1 ∷ [] = lists (ask 2 ∷ []) .stands in
-    apart (cc)
+not-always-0 lists = let e : pos 0 ≡ pos 1 = begins-1 (lists (ask 2 ∷ []) .stands) in apart (cc)
 
 -- writes nothing into the buffer
 abbrev unwritten : Look
-unwritten = with-inst (λ inst. inst)
+unwritten start count work inst = with-buffers (λ w. w) (λ _. inst) (look tiny start count work inst)
 
 pub not-unwritten : EveryList tiny unwritten → ⊥
 unfolding look candidate isCase valid someRow candidates database cells size digit shown compare sure holds between sameValue
 not-unwritten lists =
-    let e : pos 7 ∷ [] ≡ pos 1 ∷ [] = lists (ask 2 ∷ []) .stands in
+    let e : pos 7 ≡ pos 1 = begins-1 (lists (ask 2 ∷ []) .stands) in
     let n : _≡_ {A = ℕ} 7 1 = cc in
     omega arith
 
--- ---- of one look alone
+-- ---- by every look
 
 -- leaves out the candidate that it starts from
 abbrev skipping : Look
 skipping start count work inst = look tiny (start + 1) count work inst
 
-pub not-skipping : PassesOverNone tiny skipping → ⊥
+pub not-skipping : EveryLook tiny skipping → ⊥
 unfolding look candidate isCase valid someRow candidates database cells size digit shown compare sure holds between sameValue
-not-skipping p =
-    p .none 1 1 (ask 1 .work) (ask 1 .inst) (Answer.case 2) (zeros (ask 1 .work)) (shownIn tiny 2 (ask 1 .inst)) refl 1 (omega arith) (omega arith) case-1
+not-skipping says = says 1 1 (ask 1 .work) (ask 1 .inst) .case-when 2 .0 refl .1 .none 1 (omega arith) (omega arith) case-1
 
 -- says no case without looking, from any start
-pub not-unlooked-alone : PassesOverNone tiny unlooked → ⊥
+pub not-unlooked-alone : EveryLook tiny unlooked → ⊥
 unfolding candidates size
-not-unlooked-alone p = p .none 0 1 [] [] Answer.noCase [] [] refl 1 (omega arith) (omega arith) case-1
+not-unlooked-alone says = says 0 1 [] [] .no-case-when .0 refl .2 1 (omega arith) (omega arith) case-1
+
+-- past the first case it never searches: it hands back its start, and zeroes the instance buffer
+abbrev lazy : Look
+lazy start count work inst = cond (ltb 1 start) (After.after (Answer.spent start) (zeros work) (zeros inst)) (look tiny start count work inst)
+
+pub not-lazy : EveryLook tiny lazy → ⊥
+unfolding candidates size
+not-lazy says = let e : _≡_ {A = ℕ} 2 3 = says 2 1 (ask 1 .work) (ask 1 .inst) .spent-when 2 .0 refl .1 in omega arith
+
+-- zeroes the instance buffer where it finds nothing
+abbrev zeroing : Look
+zeroing start count work inst = cond (ltb 1 start) (with-buffers (λ w. w) zeros (look tiny start count work inst)) (look tiny start count work inst)
+
+pub not-zeroing : EveryLook tiny zeroing → ⊥
+unfolding look candidate candidates size
+not-zeroing says = let e : pos 0 ∷ [] ≡ pos 7 ∷ [] = says 2 0 (ask 0 .work) (ask 0 .inst) .buffers .1 in apart (cc)
 
 -- leaves its work area as it is
 abbrev untidy : Look
-untidy start count work inst = After.after (Answer.spent (start + count)) work inst
+untidy start count work inst = with-buffers (λ _. work) (λ i. i) (look tiny start count work inst)
 
-pub not-untidy : Zeroes untidy → ⊥
-not-untidy z = let e : pos 1 ∷ [] ≡ pos 0 ∷ [] = z 0 0 (pos 1 ∷ []) [] (Answer.spent 0) (pos 1 ∷ []) [] refl tt in apart (cc)
+pub not-untidy : EveryLook tiny untidy → ⊥
+unfolding look candidate candidates size
+not-untidy says =
+    let work = replicate 9216 (pos 1) in
+    let e : pos 1 ≡ pos 0 = ap (λ (w : List ℤ). getD w 0 (pos 0)) (says 0 0 work (pos 7 ∷ []) .buffers .0) in
+    apart (cc)
+
+-- refuses every look. No list of looks refutes it, since a refused look counts for nothing
+abbrev unwilling : Look
+unwilling start count work inst = After.after (Answer.refused 11 0) work inst
+
+pub not-unwilling : EveryLook tiny unwilling → ⊥
+unfolding candidates size
+not-unwilling says =
+    let fits : Fits tiny 0 (ask 0 .work) (ask 0 .inst) = record { area = omega arith; buffer = omega arith; early = omega arith } in
+    let e : Answer.refused 11 0 ≡ Answer.spent 0 = says 0 0 (ask 0 .work) (ask 0 .inst) .spent-when 0 .1 (fits, refl, omega arith, λ j a b. absurd (omega arith)) in
+    apart (cc)
 
 -- refuses, and writes its work area
 abbrev refusing : Look
@@ -239,10 +181,45 @@ refusing start count work inst = After.after (Answer.refused 11 0) (zeros work) 
 pub not-refusing : RefusedUnchanged refusing → ⊥
 not-refusing u = let e : pos 0 ∷ [] ≡ pos 1 ∷ [] = u 0 0 (pos 1 ∷ []) [] 11 0 (pos 0 ∷ []) [] refl .0 in apart (cc)
 
--- refuses every look. No list of looks refutes it, since a refused look counts for nothing; that a fitting call is accepted does
-abbrev unwilling : Look
-unwilling start count work inst = After.after (Answer.refused 11 0) work inst
+-- ---- invalid candidates
 
-pub not-unwilling : AcceptsFitting tiny unwilling → ⊥
-unfolding candidates size
-not-unwilling a = a 0 0 (replicate 9216 (pos 0)) (pos 0 ∷ []) (omega arith) (omega arith) (omega arith) (Answer.refused 11 0) (replicate 9216 (pos 0)) (pos 0 ∷ []) refl
+-- two rows of one keyed column with the values 0 and 1, and a view of all rows: candidate 0 breaks the key, candidate 1 is a case
+abbrev keyed : File
+keyed = record {
+  tables = record { rows = 2; columns = record { lo = pos 0; hi = pos 1 } ∷ []; key = true ∷ [] } ∷ [];
+  keys = [];
+  views = View.basic (0 ∷ []) Cond.always (Expr.column 0 0 ∷ []) ∷ [];
+  goal = record { view = 1; negative = false };
+}
+
+keyed-case : CaseAt keyed 1
+unfolding wellFormed isCase valid someRow database cells size digit compare sure holds between sameValue minZ maxZ
+keyed-case = dec-true (cases keyed refl (database keyed 1)) refl
+
+-- stops at the first invalid candidate, with some answer there
+abbrev stopping : (ℕ → Answer) → Look
+stopping stop start count work inst =
+    let end = min (start + count) (candidates keyed) in
+    let k = seek (λ j. not (valid keyed (database keyed j)) || candidate keyed j) start (end - start) in
+    cond (ltb k end && not (candidate keyed k)) (After.after (stop k) (zeros work) inst) (verdict keyed end k work inst)
+
+-- says no case there
+pub not-stopping : EveryList keyed (stopping (λ k. Answer.noCase)) → ⊥
+unfolding candidate isCase valid someRow candidates database cells size digit compare sure holds between sameValue
+not-stopping lists = lists (ask 4 ∷ []) .no-case-when .0 refl .1 (database keyed 1) keyed-case
+
+-- says spent there
+pub not-stopping-spent : EveryList keyed (stopping Answer.spent) → ⊥
+unfolding candidate isCase valid someRow candidates database cells size digit compare sure holds between sameValue
+not-stopping-spent lists = let e : _≡_ {A = ℕ} 0 4 = lists (ask 4 ∷ []) .else 0 refl .0 in omega arith
+
+-- ---- candidate order
+
+-- the digits with the last cell most significant
+abbrev last-first : List Column → ℕ → List Value
+last-first [] k = []
+last-first (c ∷ cs) k = digit c (k % size c) ∷ last-first cs (k / size c)
+
+pub not-last-first : ((k : ℕ) → k < candidates keyed → number (cellColumns (keyed .tables)) (last-first (cellColumns (keyed .tables)) k) ≡ k) → ⊥
+unfolding candidates size digit digitOf
+not-last-first order = let e : _≡_ {A = ℕ} 2 1 = order 1 (omega arith) in omega arith

@@ -1,15 +1,115 @@
--- "A list of looks" at one accepted file, and what demand 3 says of it as a whole and of each look by itself. Assumes nothing: these are
--- definitions.
+-- What demand 3 says: of each look by itself, of every list of looks at one accepted file as a whole, and of looks that together cover all
+-- candidates. Assumes nothing: these are definitions.
 use mathlib.Core.Path.{_≡_}
 use mathlib.Core.Logic.{_↔_}
 use mathlib.Core.List.{List, [], _∷_}
-use Prim.Native.Nat.{ℕ, _+_, _≤_, _<_}
+use Prim.Native.Nat.{ℕ, _+_, _≤_, _<_, min}
 use lib.IntN.{ℤ}
-use lib.ListN.{length}
+use lib.ListN.{length, take, drop}
+use Rattle.value.specs.Bag.{All}
+use Rattle.value.specs.Value.{Cell}
+use Rattle.meaning.specs.Lists.{Any, Each}
 use Rattle.meaning.specs.Syntax.{File, Database}
 use Rattle.meaning.specs.Cases.{Case}
-use Rattle.meaning.specs.Candidates.{cellCount, candidates, database}
-use Rattle.meaning.specs.Look.{Answer, After, workSize, zeros, shownIn}
+use Rattle.meaning.specs.Candidates.{cellCount, candidates, cells, database}
+use Rattle.meaning.specs.Look.{Answer, After, answerIn, workSize, zeros}
+
+-- what a look gives of a start, a count, a work area and an instance buffer
+abbrev pub Look : Type 0
+Look = ℕ → ℕ → List ℤ → List ℤ → After
+
+-- ---- cases by their numbers
+
+module _ (F : File) where
+  -- candidate k is a case of the file's goal, by the paper's definitions
+  abbrev pub CaseAt : ℕ → Type 0
+  CaseAt k = Case F (database F k) (F .goal)
+
+  -- "that end left out, no candidate is a case"
+  abbrev pub NoneFrom : ℕ → ℕ → Type 0
+  NoneFrom start end = (j : ℕ) → start ≤ j → j < end → ¬ (CaseAt j)
+
+  abbrev pub NoneBelow : ℕ → Type 0
+  NoneBelow n = (j : ℕ) → j < n → ¬ (CaseAt j)
+
+  -- "The first case in candidate order is the one with the smallest number"
+  abbrev pub First : ℕ → Type 0
+  First k = (k < candidates F) × CaseAt k × NoneBelow k
+
+  -- "no database with the file's row counts, value ranges and keys, rows in any order, is a case of the wanted sign": a case is valid
+  abbrev pub NoDatabase : Type 0
+  NoDatabase = (d : Database) → ¬ (Case F d (F .goal))
+
+-- ---- one look, in a list or alone, from any start
+
+module _ (F : File) where
+  -- the first in the order of the document that is met: "11, work area short. 12, instance buffer shorter than the cells. 13, start > N"
+  pub data RefusedBy (start : ℕ) (work inst : List ℤ) : ℕ → Type 0 where
+    short-work : length work < workSize → RefusedBy start work inst 11
+    short-instance : workSize ≤ length work → length inst < cellCount F → RefusedBy start work inst 12
+    late-start : workSize ≤ length work → cellCount F ≤ length inst → candidates F < start → RefusedBy start work inst 13
+
+  -- none of them is met: "A call that meets none of these conditions is accepted"
+  pub record Fits (start : ℕ) (work inst : List ℤ) : Type 0 where
+    pub area : workSize ≤ length work
+    pub buffer : cellCount F ≤ length inst
+    pub early : start ≤ candidates F
+
+  -- "Let end = min(start + count, N)"
+  abbrev pub endOf : ℕ → ℕ → ℕ
+  endOf start count = min (start + count) (candidates F)
+
+  -- "The smallest case k with start ≤ k < end"
+  pub record Smallest (start end k : ℕ) : Type 0 where
+    pub from : start ≤ k
+    pub to : k < end
+    pub hit : CaseAt F k
+    pub none : NoneFrom F start k
+
+  -- "the buffer begins with its cells", "instance numbers not just named keep their values": of the buffer before and after
+  pub record Begins (k : ℕ) (inst inst′ : List ℤ) : Type 0 where
+    pub front : Each Cell (cells F k) (take (cellCount F) inst′)
+    pub rest : drop (cellCount F) inst′ ≡ drop (cellCount F) inst
+    pub size : length inst′ ≡ length inst
+
+  -- "After an accepted look the work area is all zero"; a refusal: "no buffer changes"
+  abbrev pub Buffers : List ℤ → List ℤ → After → Type 0
+  Buffers work inst (After.after (Answer.case k) work′ inst′) = (work′ ≡ zeros work) × Begins k inst inst′
+  Buffers work inst (After.after Answer.noCase work′ inst′) = (work′ ≡ zeros work) × (inst′ ≡ inst)
+  Buffers work inst (After.after (Answer.spent next) work′ inst′) = (work′ ≡ zeros work) × (inst′ ≡ inst)
+  Buffers work inst (After.after (Answer.refused n l) work′ inst′) = (work′ ≡ work) × (inst′ ≡ inst)
+
+  -- what "A look" says of the result r
+  pub record LookSays (start count : ℕ) (work inst : List ℤ) (r : After) : Type 0 where
+    -- "The smallest case k with start ≤ k < end gives "case k""
+    pub case-when : (k : ℕ) → (answerIn r ≡ Answer.case k) ↔ (Fits start work inst × Smallest start (endOf start count) k)
+    -- "Otherwise "no case" if end = N"
+    pub no-case-when : (answerIn r ≡ Answer.noCase)
+        ↔ (Fits start work inst × (endOf start count ≡ candidates F) × NoneFrom F start (candidates F))
+    -- "else "spent", with next = end"
+    pub spent-when : (s : ℕ) → (answerIn r ≡ Answer.spent s)
+        ↔ (Fits start work inst × (s ≡ endOf start count) × (s < candidates F) × NoneFrom F start s)
+    -- "line 0 where none is said"
+    pub refused-when : (n l : ℕ) → (answerIn r ≡ Answer.refused n l) ↔ (RefusedBy start work inst n × (l ≡ 0))
+    pub buffers : Buffers work inst r
+
+  -- "An accepted look, in a list or alone, from any start, gives exactly what "A look" says", and a refused one what is said of refusals
+  abbrev pub EveryLook : Look → Type 0
+  EveryLook look = (start count : ℕ) (work inst : List ℤ) → LookSays start count work inst (look start count work inst)
+
+  -- the end of what a look passes over: "its k, its next or, at "no case", N". A refusal passes over nothing
+  abbrev pub upTo : Answer → ℕ
+  upTo (Answer.case k) = k
+  upTo Answer.noCase = candidates F
+  upTo (Answer.spent next) = next
+  upTo (Answer.refused n l) = 0
+
+-- a refused look writes nothing
+abbrev pub RefusedUnchanged : Look → Type 0
+RefusedUnchanged look = (start count : ℕ) (work inst : List ℤ) (n l : ℕ) (w i : List ℤ)
+    → look start count work inst ≡ After.after (Answer.refused n l) w i → (w ≡ work) × (i ≡ inst)
+
+-- ---- a list of looks
 
 -- a look of a list: "its own count, from 0 up, and is lent buffers of any length and contents"
 pub record Ask : Type 0 where
@@ -30,9 +130,6 @@ told q start sum (After.after (Answer.case k) work inst) = Run.case k q inst (su
 told q start sum (After.after Answer.noCase work inst) = Run.noCase (sum + q .count)
 told q start sum (After.after (Answer.spent next) work inst) = Run.going next (sum + q .count)
 told q start sum (After.after (Answer.refused n l) work inst) = Run.going start sum
-
-abbrev pub Look : Type 0
-Look = ℕ → ℕ → List ℤ → List ℤ → After
 
 -- a list of looks, by what one look gives of a start, a count and the buffers
 module _ (look : Look) where
@@ -62,39 +159,31 @@ sumOf (Run.case k q inst sum) = sum
 sumOf (Run.noCase sum) = sum
 
 module _ (F : File) where
-  -- candidate k is a case of the file's goal, by the paper's definitions
-  abbrev pub CaseAt : ℕ → Type 0
-  CaseAt k = Case F (database F k) (F .goal)
-
-  abbrev pub NoneBelow : ℕ → Type 0
-  NoneBelow n = (j : ℕ) → j < n → ¬ (CaseAt j)
-
-  -- "The first case in candidate order is the one with the smallest number"
-  abbrev pub First : ℕ → Type 0
-  First k = (k < candidates F) × CaseAt k × NoneBelow k
-
-  -- "no database with the file's row counts, value ranges and keys, rows in any order, is a case of the wanted sign": a case is valid
-  abbrev pub NoDatabase : Type 0
-  NoDatabase = (d : Database) → ¬ (Case F d (F .goal))
-
   -- "The cells of case k stand in the instance buffer lent to the look that ended the list"
   abbrev pub Stands : Run → Type 0
   Stands (Run.going start sum) = Unit {0}
-  Stands (Run.case k q inst sum) = inst ≡ shownIn F k (q .inst)
+  Stands (Run.case k q inst sum) = Begins F k (q .inst) inst
   Stands (Run.noCase sum) = Unit {0}
 
   -- demand 3, of a list that stands at r
   pub record Whole (r : Run) : Type 0 where
-    pub case-when : (k : ℕ) → (outcome r ≡ Answer.case k) ↔ (First k × (k < sumOf r))
-    pub no-case-when : (outcome r ≡ Answer.noCase) ↔ ((candidates F ≤ sumOf r) × NoDatabase)
-    pub else : (s : ℕ) → outcome r ≡ Answer.spent s → (s ≡ sumOf r) × NoneBelow s
+    pub case-when : (k : ℕ) → (outcome r ≡ Answer.case k) ↔ (First F k × (k < sumOf r))
+    pub no-case-when : (outcome r ≡ Answer.noCase) ↔ ((candidates F ≤ sumOf r) × NoDatabase F)
+    pub else : (s : ℕ) → outcome r ≡ Answer.spent s → (s ≡ sumOf r) × NoneBelow F s
     pub stands : Stands r
 
   -- demand 3: one statement about every list of looks
   abbrev pub EveryList : Look → Type 0
   EveryList look = (qs : List Ask) → Whole (run look qs)
 
--- ---- one look, in a list or alone, from any start
+-- ---- looks that together cover all candidates, in any order and from any starts
+
+-- a look with a start of its own
+pub record Stretch : Type 0 where
+  pub start : ℕ
+  pub count : ℕ
+  pub work : List ℤ
+  pub inst : List ℤ
 
 -- not a refusal
 abbrev pub Accepted : Answer → Type 0
@@ -103,33 +192,24 @@ Accepted Answer.noCase = Unit {0}
 Accepted (Answer.spent next) = Unit {0}
 Accepted (Answer.refused n l) = ⊥
 
-module _ (F : File) where
-  -- the end of what a look passes over: "its k, its next or, at "no case", N". A refusal passes over nothing
-  abbrev pub upTo : Answer → ℕ
-  upTo (Answer.case k) = k
-  upTo Answer.noCase = candidates F
-  upTo (Answer.spent next) = next
-  upTo (Answer.refused n l) = 0
+module _ (F : File) (look : Look) where
+  abbrev pub answerTo : Stretch → Answer
+  answerTo q = answerIn (look (q .start) (q .count) (q .work) (q .inst))
 
-  -- "passes over no case: from its start up to its k, its next or, at "no case", N, that end left out, no candidate is a case", and its k
-  -- is one
-  pub record PassesOverNone (look : Look) : Type 0 where
-    pub none : (start count : ℕ) (work inst : List ℤ) (a : Answer) (w i : List ℤ) → look start count work inst ≡ After.after a w i
-        → (j : ℕ) → start ≤ j → j < upTo a → ¬ (CaseAt F j)
-    pub hit : (start count : ℕ) (work inst : List ℤ) (k : ℕ) (w i : List ℤ) → look start count work inst ≡ After.after (Answer.case k) w i
-        → (start ≤ k) × (k < candidates F) × CaseAt F k
+  -- each candidate lies in the stretch of some accepted look
+  abbrev pub Covered : List Stretch → Type 0
+  Covered qs = (j : ℕ) → j < candidates F → Any (λ q. Accepted (answerTo q) × (q .start ≤ j) × (j < q .start + q .count)) qs
 
--- "After an accepted look the work area is all zero"
-abbrev pub Zeroes : Look → Type 0
-Zeroes look = (start count : ℕ) (work inst : List ℤ) (a : Answer) (w i : List ℤ) → look start count work inst ≡ After.after a w i
-    → Accepted a → w ≡ zeros work
+  -- k is the smallest case among the answers
+  pub record Least (qs : List Stretch) (k : ℕ) : Type 0 where
+    pub answered : Any (λ q. answerTo q ≡ Answer.case k) qs
+    pub least : All (λ q. (j : ℕ) → answerTo q ≡ Answer.case j → k ≤ j) qs
 
--- a refused look writes nothing
-abbrev pub RefusedUnchanged : Look → Type 0
-RefusedUnchanged look = (start count : ℕ) (work inst : List ℤ) (n l : ℕ) (w i : List ℤ)
-    → look start count work inst ≡ After.after (Answer.refused n l) w i → (w ≡ work) × (i ≡ inst)
+  -- what they say together
+  pub record Together (qs : List Stretch) : Type 0 where
+    pub first-when : (k : ℕ) → First F k ↔ Least qs k
+    pub none-when : NoDatabase F ↔ All (λ q. (k : ℕ) → ¬ (answerTo q ≡ Answer.case k)) qs
 
--- "A call that meets none of these conditions is accepted"
-abbrev pub AcceptsFitting : File → Look → Type 0
-AcceptsFitting F look = (start count : ℕ) (work inst : List ℤ) → workSize ≤ length work → cellCount F ≤ length inst → start ≤ candidates F
-    → (a : Answer) (w i : List ℤ) → look start count work inst ≡ After.after a w i → Accepted a
+  -- of any looks that cover all candidates, refused ones among them
+  abbrev pub EveryCover : Type 0
+  EveryCover = (qs : List Stretch) → Covered qs → Together qs

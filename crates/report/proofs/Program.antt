@@ -14,12 +14,13 @@ use Rattle.meaning.specs.Syntax.{File}
 use Rattle.meaning.specs.Bounds.{wellFormed}
 use Rattle.meaning.specs.Candidates.{cellCount, candidates, database}
 use Rattle.meaning.specs.Look.{Answer, After, look, workSize, zeros}
-use Rattle.meaning.specs.Looks.{Ask, Run, run, told, outcome, sumOf, First, NoDatabase, Whole}
-use Rattle.meaning.proofs.Demand3.{demand-3}
+use Rattle.meaning.specs.Looks.{EveryLook, Ask, Run, run, told, outcome, sumOf, First, NoDatabase, Whole}
+use Rattle.meaning.proofs.Demand3.{look-says, demand-3}
 use Rattle.text.specs.Text.{textOf, line, hex, hexDigit}
 use Rattle.rules.specs.Check.{Outcome}
 use Rattle.rules.specs.FileOf.{fileOf}
 use Rattle.rules.proofs.TextLaws.{accepted-text}
+use Rattle.look.proofs.RealLooks.{sixteen-bits}
 use Rattle.report.specs.Output.{caseFrame, tableFrames, noCaseFrame, refusalFrame, answerFrames, searchedAll, outcomeFrames, outputOf}
 use Rattle.report.proofs.OutputLaws.{first, shownAll, all-case, all-none, whole-look}
 
@@ -32,7 +33,7 @@ one-case {a} {k} q w i e = rw e (refl, omega arith)
 one-none : {a : Answer} (q : Ask) (w i : List ℤ) → a ≡ Answer.noCase → (outcome (told q 0 0 (After.after a w i)) ≡ a) × (sumOf (told q 0 0 (After.after a w i)) ≡ q .count)
 one-none {a} q w i e = rw e (refl, omega arith)
 
-module _ (F : File) (well : wellFormed F ≡ true) (work inst : List ℤ) (whole : workSize ≤ length work) (room : cellCount F ≤ length inst) where
+module _ (F : File) (says : EveryLook F (look F)) (well : wellFormed F ≡ true) (work inst : List ℤ) (whole : workSize ≤ length work) (room : cellCount F ≤ length inst) where
   -- one look, from 0 to the end
   abbrev ask : Ask
   ask = record { count = candidates F; work = work; inst = inst }
@@ -44,7 +45,7 @@ module _ (F : File) (well : wellFormed F ≡ true) (work inst : List ℤ) (whole
   ended-run = ap (told ask 0 0) (whole-look F (candidates F) work inst (omega arith) whole room)
 
   ended-whole : Whole F ended
-  ended-whole = subst (Whole F) ended-run (demand-3 F well (ask ∷ []))
+  ended-whole = subst (Whole F) ended-run (demand-3 F well (look F) says (ask ∷ []))
 
   ended-is : (outcome ended ≡ searchedAll F) × (sumOf ended ≡ candidates F)
   ended-is =
@@ -86,11 +87,12 @@ module _ (text : List ℕ) where
     answers : ((k : ℕ) → (searchedAll F ≡ Answer.case k) ↔ First F k) × ((searchedAll F ≡ Answer.noCase) ↔ NoDatabase F)
     answers =
         let well : wellFormed F ≡ true = accepted-text text F e .well-formed in
+        let says : EveryLook F (look F) = look-says F well (sixteen-bits F (accepted-text text F e .legal)) in
         let work : List ℤ = replicate workSize (pos 0) in
         let inst : List ℤ = replicate (cellCount F) (pos 0) in
         let whole : workSize ≤ length work = omega (arith, length-replicate workSize (pos 0)) in
         let room : cellCount F ≤ length inst = omega (arith, length-replicate (cellCount F) (pos 0)) in
-        (case-of F well work inst whole room, none-of F well work inst whole room)
+        (case-of F says well work inst whole room, none-of F says well work inst whole room)
 
     output-is : outputOf text ≡ textOf (answerFrames F (searchedAll F))
     unfolding outputOf

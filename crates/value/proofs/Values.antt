@@ -11,7 +11,7 @@ use lib.ListN.{length}
 use lib.Signed.{_≤ℤ_}
 use Rattle.value.specs.Bag.{All, Same}
 use Rattle.value.specs.Integer.{low32, high32, low16, high16, minZ, maxZ, leastEnd, greatestEnd, roundZ}
-use Rattle.value.specs.Value.{Operation, operationAt, applyZ, Comparison, comparisonAt, Connective, connectiveAt, Aggregate, aggregateAt, sure, negate, holds, Value, apply, round, valueTest, Tally, start, combine, weight, gather, more, finish, tally, total, TallyBetween, TallyHeld, Between, between, Held, narrowed, narrowedTally, stored, shown, Column, Within, within, size, digit}
+use Rattle.value.specs.Value.{Operation, operationAt, applyZ, Comparison, comparisonAt, Connective, connectiveAt, Aggregate, aggregateAt, sure, negate, holds, Value, apply, round, valueTest, Tally, start, combine, weight, gather, more, finish, tally, total, TallyBetween, TallyHeld, Between, between, Held, narrowed, narrowedTally, stored, shown, Cell, Column, Within, within, size, digit, digitOf}
 use Rattle.value.proofs.Decides.{Decides, and-dec, by-dec}
 use Rattle.value.proofs.Linear.{‵, _⊕_, _⊗_, ≤-by, ≤-to, ≤-parts, sum-parts, diff-parts, magnitude-parts, ints}
 use Rattle.value.proofs.Order.{≤-trans, ≤-self, ≤-dec, min-below, max-above, below-min, above-max, min-comm, max-comm, min-assoc, max-assoc, In, sum-hull, difference-hull, product-hull, multiple-low, multiple-high}
@@ -226,9 +226,13 @@ pub number-stored : (v : Value) → Value.number (stored v) ≡ v
 unfolding stored
 number-stored (Value.number z) = refl
 
-pub number-shown : {v : Value} → Between low16 high16 v → Value.number (shown v) ≡ v
+-- the instance buffer holds a value that 16 bits hold
+pub shown-cell : {v : Value} → Between low16 high16 v → Cell v (shown v)
 unfolding shown
-number-shown (Between.number a b) = ap Value.number (narrow16-held a b)
+shown-cell (Between.number a b) = rw (narrow16-held a b) Cell.number
+
+pub cell-number : {v : Value} {z : ℤ} → Cell v z → v ≡ Value.number z
+cell-number Cell.number = refl
 
 -- ---- digits: each value of a column is the value of exactly one digit
 pub digit-within : (c : Column) → c .lo ≤ℤ c .hi → (n : ℕ) → n < size c → Within c (digit c n)
@@ -239,10 +243,6 @@ digit-within c h n l =
           (omega (ints, sum-parts (c .lo) (pos n)))
           (omega (ints, sum-parts (c .lo) (pos n), diff-parts (c .hi) (c .lo), magnitude-parts (c .hi -ℤ c .lo)));
     }
-
--- the digit of a value
-unfoldable pub digitOf : Column → Value → ℕ
-digitOf c (Value.number z) = natAbs (z -ℤ c .lo)
 
 within-digit′ : (c : Column) {v : Value} → Between (c .lo) (c .hi) v → (digitOf c v < size c) × (digit c (digitOf c v) ≡ v)
 unfolding size digit digitOf

@@ -207,6 +207,10 @@ stored (Value.number z) = z
 unfoldable pub shown : Value → ℤ
 shown (Value.number z) = narrow16 z
 
+-- a number of the instance buffer is a cell of this value
+pub data Cell : Value → ℤ → Type 0 where
+  number : {z : ℤ} → Cell (Value.number z) z
+
 -- ---- columns of tables
 
 -- "lo and hi for each column"
@@ -227,3 +231,7 @@ size c = suc (natAbs (c .hi -ℤ c .lo))
 
 unfoldable pub digit : Column → ℕ → Value
 digit c n = Value.number (c .lo +ℤ pos n)
+
+-- back: the digit of a value in its column
+unfoldable pub digitOf : Column → Value → ℕ
+digitOf c (Value.number z) = natAbs (z -ℤ c .lo)
