@@ -1,17 +1,21 @@
 -- Which refusals frames can have: a number from 3 to 9 with the line of a frame, or 3 or 10 with line 0. Assumes nothing.
-use mathlib.Core.Path.{_≡_, refl, subst₂}
-use mathlib.Core.List.{List, [], _∷_}
-use mathlib.Core.Logic.{_⊎_, inl, inr}
+use mathlib.Core.Path.{_≡_, refl, ap, subst₂}
+use mathlib.Core.List.{List, [], _∷_, _++_}
+use mathlib.Core.Logic.{_⊎_, inl, inr, ⊎-elim}
 use mathlib.Core.Option.{Option, none, some}
 use Prim.Native.Nat.{ℕ, suc, _+_, _≤_, _<_}
 use native.Mathlib.Omega.{arith}
 use lib.Dec.{leb}
-use lib.ListN.{length}
+use lib.ListN.{length, length-append}
 use Rattle.value.proofs.Decides.{by-test}
 use Rattle.meaning.specs.Syntax.{Goal, File}
 use Rattle.meaning.specs.Candidates.{candidates}
+use Rattle.text.specs.Text.{Lines, FirstWrong, Gives, framesOf, textOf}
+use Rattle.text.proofs.Laws.{text-long}
+use Rattle.text.proofs.Complete.{gives}
 use Rattle.rules.specs.Draft.{Draft, empty}
 use Rattle.rules.specs.Check.{Outcome, Checked, candidateLimit, finished, onward, checkFrames, checkAll}
+use Rattle.rules.specs.FileOf.{fileOf, outcomeOf}
 use Rattle.rules.specs.Legal.{Limits, Refusal}
 use Rattle.rules.proofs.Folds.{fileAt}
 use Rattle.rules.proofs.Steps.{Looked, looked}
@@ -77,3 +81,21 @@ numbers-of Refusal.tooMany = (omega arith, omega arith, inl refl)
 pub refusal-numbers : (fs : List (List ℕ)) (n l : ℕ) → checkAll fs ≡ Outcome.refused n l
     → (3 ≤ n) × (n ≤ 10) × ((l ≡ 0) ⊎ ((1 ≤ l) × (l ≤ length fs)))
 refusal-numbers fs n l e = numbers-of (refusal-place fs n l e)
+
+-- ---- of a text
+
+wrong-line : {k : ℕ} {text : List ℕ} → FirstWrong k text → k ≤ length text
+wrong-line w = omega (arith, w .line-is, w .some, text-long (w .before), length-append (textOf (w .before)) (w .rest), ap length (w .text-is))
+
+pub refusal-limits : (text : List ℕ) (n l : ℕ) → fileOf text ≡ Outcome.refused n l → (1 ≤ n) × (n ≤ 10) × (l < 65536)
+unfolding fileOf
+refusal-limits text n l e = go (gives text) e
+  where
+    go : {L : Lines} → Gives text L → outcomeOf L ≡ Outcome.refused n l → (1 ≤ n) × (n ≤ 10) × (l < 65536)
+    go (Gives.accepted {fs} t all one few) e =
+        let lines : length fs ≤ length text = rw (← t) at (text-long fs) in
+        let (low, high, place) = refusal-numbers fs n l e in
+        (omega arith, high, ⊎-elim (λ z. omega arith) (λ z. omega arith) place)
+    go (Gives.empty h) e = let p : n ≡ 1 = cc in let q : l ≡ 0 = cc in (omega arith, omega arith, omega arith)
+    go (Gives.long h) e = let p : n ≡ 1 = cc in let q : l ≡ 0 = cc in (omega arith, omega arith, omega arith)
+    go (Gives.wrong-line {k} w few) e = let p : n ≡ 2 = cc in let q : l ≡ k = cc in (omega arith, omega arith, omega (arith, wrong-line w))

@@ -20,15 +20,16 @@ run-whole : (fs : List (List ℕ)) → All Frame fs → run (between [] []) (tex
 unfolding run
 run-whole fs h = rw (append-nil (textOf fs)) at (run-text [] fs [] h)
 
-text-long : (fs : List (List ℕ)) → 1 ≤ length fs → 1 ≤ length (textOf fs)
+-- a text has at least as many characters as lines
+pub text-long : (fs : List (List ℕ)) → length fs ≤ length (textOf fs)
 unfolding textOf line
-text-long [] k = absurd (omega arith)
-text-long (f ∷ fs) k = simp length-append (omega arith)
+text-long [] = omega arith
+text-long (f ∷ fs) = simp length-append (omega (arith, text-long fs))
 
 pub reads-back : (fs : List (List ℕ)) → All Frame fs → 1 ≤ length fs → length (textOf fs) ≤ 8192 → framesOf (textOf fs) ≡ frames fs
 unfolding framesOf linesOf
 reads-back fs h some few =
-    let full : 1 ≤ length (textOf fs) = text-long fs some in
+    let full : 1 ≤ length (textOf fs) = omega (arith, text-long fs) in
     rw (ne-eqb (length (textOf fs)) 0 (omega arith), le-ltb 8192 (length (textOf fs)) few) (ap ended (run-whole fs h))
 
 -- ---- what is read was written
