@@ -1,7 +1,7 @@
 -- The program's output from the answer to its look, and the output's length. Assumes nothing.
 use mathlib.Core.Path.{_≡_, refl, sym, ap, ap₂, subst, _∙_}
 use mathlib.Core.Bool.{cond}
-use mathlib.Core.List.{List, [], _∷_, map}
+use mathlib.Core.List.{List, [], _∷_, _++_, map}
 use Prim.Native.Nat.{ℕ, _+_, _-_, _≤_, _<_, min}
 use native.Mathlib.Omega.{arith}
 use borrow.Author.Tests.{le-ltb, lt-ltb, ltb-true, ltb-false, eq-eqb}
@@ -199,6 +199,14 @@ module _ (text out : List ℕ) where
 
     pub printed-spent : {next : ℕ} → a ≡ Spent next → Printed text out r out′
     printed-spent {next} e = absurd (S .spent next (ap answerOf e))
+
+  -- with that room the bytes in front are the output
+  pub printed-whole : {out′ : List ℕ} {r : ℕ} → Printed text out r out′ → outputRoom ≤ length out → take r out′ ≡ outputOf text
+  printed-whole {out′} {r} p h =
+      let o = outputOf text in
+      let n : r ≡ length o = rw (le-ltb (length out) outputRoom h) at (p .length-is) in
+      let l : out′ ≡ o ++ drop (length o) out = rw (le-ltb (length out) outputRoom h) at (p .left) in
+      ap (take r) l ∙ take-at o (drop (length o) out) r (sym n)
 
   -- what a caller of the function needs to read the output
   pub printed-within : {out′ : List ℕ} {r : ℕ} → Printed text out r out′ → length out′ ≡ length out → r ≤ length out′

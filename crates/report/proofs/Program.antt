@@ -1,5 +1,6 @@
--- What the program says: "no case" is printed exactly where no database is a case, and else the first case. Assumes nothing.
-use mathlib.Core.Path.{_≡_, refl, sym, ap, subst, _∙_}
+-- What the program says of any text: its refusal, that no database is a case, or the first case; and the output tells which, with every
+-- number in it. Assumes nothing.
+use mathlib.Core.Path.{_≡_, refl, sym, ap, subst, subst₂, _∙_}
 use mathlib.Core.Bool.{true}
 use mathlib.Core.Logic.{_↔_}
 use mathlib.Core.List.{List, [], _∷_}
@@ -8,21 +9,24 @@ use native.Mathlib.Omega.{arith}
 use borrow.Author.Tests.{ltb-true, ltb-false}
 use lib.Dec.{ltb}
 use lib.IntN.{ℤ, pos}
-use lib.ListN.{length, getD, replicate, length-replicate}
+use lib.ListN.{length, replicate, length-replicate}
 use Rattle.value.proofs.Decides.{by-test}
 use Rattle.meaning.specs.Syntax.{File}
 use Rattle.meaning.specs.Bounds.{wellFormed}
-use Rattle.meaning.specs.Candidates.{cellCount, candidates, database}
+use Rattle.meaning.specs.Candidates.{cellCount, candidates}
 use Rattle.meaning.specs.Look.{Answer, After, look, workSize, zeros}
 use Rattle.meaning.specs.Looks.{EveryLook, Ask, Run, run, told, outcome, sumOf, First, NoDatabase, Whole}
 use Rattle.meaning.proofs.Demand3.{look-says, demand-3}
-use Rattle.text.specs.Text.{textOf, line, hex, hexDigit}
+use Rattle.text.specs.Text.{textOf}
 use Rattle.rules.specs.Check.{Outcome}
 use Rattle.rules.specs.FileOf.{fileOf}
+use Rattle.rules.proofs.Refusals.{refusal-limits}
 use Rattle.rules.proofs.TextLaws.{accepted-text}
 use Rattle.look.proofs.RealLooks.{sixteen-bits}
-use Rattle.report.specs.Output.{caseFrame, tableFrames, noCaseFrame, refusalFrame, answerFrames, searchedAll, outcomeFrames, outputOf}
+use Rattle.report.specs.Output.{noCaseFrame, answerFrames, searchedAll, outcomeFrames, outputOf}
+use Rattle.report.specs.Told.{Told, readBack, Says}
 use Rattle.report.proofs.OutputLaws.{first, shownAll, all-case, all-none, whole-look}
+use Rattle.report.proofs.ReadBack.{refusal-back, none-back, case-back}
 
 -- ---- the answer of the whole search, by demand 3 of a list of one look
 
@@ -67,23 +71,11 @@ module _ (F : File) (says : EveryLook F (look F)) (well : wellFormed F ≡ true)
 -- ---- what is printed
 
 module _ (text : List ℕ) where
-  -- the second digit of the first frame: 0, 2 or f
-  abbrev second : List ℕ → ℕ
-  second t = getD t 1 0
+  output-is : {o : Outcome} → fileOf text ≡ o → outputOf text ≡ textOf (outcomeFrames o)
+  unfolding outputOf
+  output-is e = ap (λ (o : Outcome). textOf (outcomeFrames o)) e
 
-  second-case : (F : File) (k : ℕ) → second (textOf (answerFrames F (Answer.case k))) ≡ 48
-  unfolding textOf line hex hexDigit
-  second-case F k = refl
-
-  second-none : second (textOf (noCaseFrame ∷ [])) ≡ 50
-  unfolding textOf line hex hexDigit
-  second-none = refl
-
-  second-refused : (n l : ℕ) → second (textOf (refusalFrame n l ∷ [])) ≡ 102
-  unfolding textOf line hex hexDigit
-  second-refused n l = refl
-
-  module _ (F : File) (e : fileOf text ≡ Outcome.accepted F) where
+  module _ {F : File} (e : fileOf text ≡ Outcome.accepted F) where
     answers : ((k : ℕ) → (searchedAll F ≡ Answer.case k) ↔ First F k) × ((searchedAll F ≡ Answer.noCase) ↔ NoDatabase F)
     answers =
         let well : wellFormed F ≡ true = accepted-text text F e .well-formed in
@@ -94,36 +86,42 @@ module _ (text : List ℕ) where
         let room : cellCount F ≤ length inst = omega (arith, length-replicate (cellCount F) (pos 0)) in
         (case-of F says well work inst whole room, none-of F says well work inst whole room)
 
-    output-is : outputOf text ≡ textOf (answerFrames F (searchedAll F))
-    unfolding outputOf
-    output-is = ap (λ (o : Outcome). textOf (outcomeFrames o)) e
+    answered : {a : Answer} → searchedAll F ≡ a → outputOf text ≡ textOf (answerFrames F a)
+    answered {a} p = output-is e ∙ ap (λ (b : Answer). textOf (answerFrames F b)) p
 
-    -- the first case is printed
-    pub first-printed : (k : ℕ) → First F k → outputOf text ≡ textOf (caseFrame k ∷ tableFrames 0 (database F k))
-    first-printed k f = output-is ∙ ap (λ (a : Answer). textOf (answerFrames F a)) (answers .0 k .1 f)
+  -- what is said of a text is its output, and what it tells is read back from it: number and line, k, and every cell of every table
+  pub says-only : {out : List ℕ} {x : Told} → Says text out x → (outputOf text ≡ out) × (readBack out ≡ x)
+  says-only (Says.refused {n} {l} e) =
+      let (low, high, few) = refusal-limits text n l e in
+      (output-is e, refusal-back n l high few)
+  says-only (Says.none e f) = (answered e (answers e .1 .1 f), none-back)
+  says-only (Says.first {F} {k} e f) =
+      let A = accepted-text text F e in
+      (answered e (answers e .0 k .1 f), case-back F k (A .legal) (A .well-formed) (f .0))
 
-    none-printed : NoDatabase F → outputOf text ≡ textOf (noCaseFrame ∷ [])
-    none-printed f = output-is ∙ ap (λ (a : Answer). textOf (answerFrames F a)) (answers .1 .1 f)
+  some-said : (o : Outcome) → fileOf text ≡ o → (out : List ℕ) × (x : Told) × Says text out x
+  some-said (Outcome.refused n l) e = (_, _, Says.refused e)
+  some-said (Outcome.accepted F) e =
+      by-test (ltb (first F) (candidates F)) (λ t. (_, _, Says.first e (answers e .0 (first F) .0 (all-case F (ltb-true _ _ t)))))
+      (λ t. (_, _, Says.none e (answers e .1 .0 (all-none F (ltb-false _ _ t)))))
 
-    printed-none : outputOf text ≡ textOf (noCaseFrame ∷ []) → NoDatabase F
-    printed-none p =
-        by-test (ltb (first F) (candidates F))
-        (λ t. absurd (omega (
-          arith,
-          ap second (sym p ∙ output-is ∙ ap (λ (a : Answer). textOf (answerFrames F a)) (all-case F (ltb-true _ _ t))),
-          second-case F (first F),
-          second-none,
-        )))
-        (λ t. answers .1 .0 (all-none F (ltb-false _ _ t)))
+  -- the output of any text is 8f with its refusal, or 82 and no database is a case, or 80 with the first case; and it tells so
+  pub says : Says text (outputOf text) (readBack (outputOf text))
+  says =
+      let (out, x, s) = some-said (fileOf text) refl in
+      let (p, q) = says-only s in
+      subst₂ (Says text) (sym p) (sym (ap readBack p ∙ q)) s
 
-  accepted-none : (o : Outcome) → fileOf text ≡ o → outputOf text ≡ textOf (noCaseFrame ∷ []) → (F : File) × (fileOf text ≡ Outcome.accepted F) × NoDatabase F
-  unfolding outputOf
-  accepted-none (Outcome.refused n l) e p =
-      let q : outputOf text ≡ textOf (refusalFrame n l ∷ []) = ap (λ (o : Outcome). textOf (outcomeFrames o)) e in
-      absurd (omega (arith, ap second (sym p ∙ q), second-refused n l, second-none))
-  accepted-none (Outcome.accepted F) e p = (F, e, printed-none F e p)
+  none-in : {out : List ℕ} {x : Told} → Says text out x → x ≡ Told.none → (F : File) × (fileOf text ≡ Outcome.accepted F) × NoDatabase F
+  none-in (Says.refused e) p = let z : _≡_ {A = ℕ} 0 1 = cc in absurd (omega arith)
+  none-in (Says.none {F} e f) p = (F, e, f)
+  none-in (Says.first e f) p = let z : _≡_ {A = ℕ} 0 1 = cc in absurd (omega arith)
 
   -- "82 for no case": it is printed exactly for an accepted file of which no database with its row counts, value ranges and keys, rows in
   -- any order, is a case
   pub no-case : (outputOf text ≡ textOf (noCaseFrame ∷ [])) ↔ ((F : File) × (fileOf text ≡ Outcome.accepted F) × NoDatabase F)
-  no-case = (accepted-none (fileOf text) refl, λ (F, e, f). none-printed F e f)
+  no-case = (λ p. none-in says (ap readBack p ∙ none-back), λ (F, e, f). says-only (Says.none e f) .0)
+
+-- two texts with one output have one outcome
+pub same-outcome : {s t out : List ℕ} {x y : Told} → Says s out x → Says t out y → x ≡ y
+same-outcome {s} {t} a b = sym (says-only s a .1) ∙ says-only t b .1

@@ -75,3 +75,7 @@ outcomeFrames (Outcome.accepted F) = answerFrames F (searchedAll F)
 -- what the program prints
 unfoldable pub outputOf : List ℕ → List ℕ
 outputOf text = textOf (outcomeFrames (fileOf text))
+
+-- how many bytes of a text settle its output: one more than the 8,192 of a rule file, so that a longer text is seen to be too long
+abbrev pub inputRoom : ℕ
+inputRoom = 8193

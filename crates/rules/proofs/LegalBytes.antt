@@ -47,10 +47,10 @@ bits-limit (pos n) f = omega (arith, f .sfits)
 bits-limit (negsuc n) f = omega (arith, f .sfits)
 
 module _ (z : ℤ) (l : low16 ≤ℤ z) (h : z ≤ℤ high16) where
-  high-limit : Byte (highByte z)
+  pub high-limit : Byte (highByte z)
   high-limit = omega (arith, bits-limit z (constant-fits z l h))
 
-  low-limit : Byte (lowByte z)
+  pub low-limit : Byte (lowByte z)
   low-limit = omega arith
 
 -- ---- expressions and conditions, over from items of at most eight columns

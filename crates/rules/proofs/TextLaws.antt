@@ -7,7 +7,7 @@ use mathlib.Core.Path.{_≡_, refl, ap, subst, _∙_}
 use mathlib.Core.Bool.{true}
 use mathlib.Core.List.{List, [], _∷_, _++_, map}
 use mathlib.Core.Logic.{_↔_}
-use Prim.Native.Nat.{ℕ, _+_, _*_, _≤_}
+use Prim.Native.Nat.{ℕ, _≤_}
 use native.Mathlib.Omega.{arith}
 use lib.ListN.{length, length-append}
 use Rattle.value.specs.Bag.{All}
@@ -17,9 +17,9 @@ use Rattle.meaning.specs.Syntax.{File, ForeignKey, Table, View}
 use Rattle.meaning.proofs.Elements.{all-append, all-both}
 use Rattle.meaning.proofs.Readers.{Byte}
 use Rattle.text.specs.Answers.{fits, written}
-use Rattle.text.specs.Text.{Frame, Lines, framesOf, line, textOf}
+use Rattle.text.specs.Text.{Frame, Lines, framesOf, textOf}
 use Rattle.text.proofs.Laws.{only-such, reads-back}
-use Rattle.text.proofs.Writing.{length-line}
+use Rattle.text.proofs.Writing.{text-length}
 use Rattle.rules.specs.Check.{Outcome}
 use Rattle.rules.specs.FileOf.{fileOf, fileText, outcomeOf}
 use Rattle.rules.specs.Legal.{Legal, Short}
@@ -29,14 +29,6 @@ use Rattle.rules.proofs.LegalAccepted.{legal-accepted}
 use Rattle.rules.proofs.LegalBytes.{legal-bytes, legal-frames}
 
 -- ---- a file's frames fit a text
-
-text-length : {fs : List (List ℕ)} → All (λ f. length f ≤ 120) fs → length (textOf fs) ≤ 241 * length fs
-unfolding textOf
-text-length All.nil = omega arith
-text-length (All.cons {x = f} {xs = fs} h hs) =
-    let n = text-length hs in
-    let e : length (line f ++ textOf fs) ≡ length (line f) + length (textOf fs) = length-append (line f) (textOf fs) in
-    omega (arith, length-line f)
 
 view-some : (q : View) → 1 ≤ length (viewBytes q)
 unfolding viewBytes

@@ -25,6 +25,15 @@ pub length-line : (f : List ℕ) → length (line f) ≡ 2 * length f + 1
 unfolding line
 length-line f = length-append (hex f) (10 ∷ []) ∙ ap (λ (n : ℕ). n + 1) (length-hex f)
 
+-- lines of at most 120 bytes have at most 241 characters
+pub text-length : {fs : List (List ℕ)} → All (λ f. length f ≤ 120) fs → length (textOf fs) ≤ 241 * length fs
+unfolding textOf
+text-length All.nil = omega arith
+text-length (All.cons {x = f} {xs = fs} h hs) =
+    let n = text-length hs in
+    let e : length (line f ++ textOf fs) ≡ length (line f) + length (textOf fs) = length-append (line f) (textOf fs) in
+    omega (arith, length-line f)
+
 line-high : (f : List ℕ) (i : ℕ) → i < length f → getD (line f) (2 * i) 0 ≡ hexDigit (getD f i 0 / 16)
 unfolding line hex
 line-high [] i h = absurd (omega arith)

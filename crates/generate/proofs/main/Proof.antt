@@ -1,5 +1,6 @@
 -- `generate::main` meets its contract. Assumes nothing.
 use mathlib.Core.Path.{sym}
+use mathlib.Core.Logic.{inl, inr}
 use borrow.Author.Needs.{needs}
 use lib.Seq.{length-take-le}
 use Rattle.generate.proofs.InputLaws.{read-within}
@@ -15,6 +16,27 @@ read-input-requires c κs = search needs
 enum-known-input : tie.Need-enum-known-input
 enum-known-input c = search needs
 
+array-share-prefix-text : tie.Need-array-share-prefix-text
+array-share-prefix-text c = read-within _ (c .before .before .before .before .read-input .ensures) (inl (c .before .input .given .1))
+
+slice-aggregate-print-output : tie.Need-slice-aggregate-print-output
+slice-aggregate-print-output c = sym (length-take-le _ _ (read-within _ (c .before .before .before .before .before .read-input .ensures) (inl (c .before .before .input .given .1))))
+
+print-output-requires : tie.Need-print-output-requires
+print-output-requires c κs = search needs
+
+enum-known-input-2 : tie.Need-enum-known-input-2
+enum-known-input-2 c = search needs
+
+array-share-prefix-text-2 : tie.Need-array-share-prefix-text-2
+array-share-prefix-text-2 c = read-within _ (c .before .before .before .before .read-input .ensures) (inr (c .before .input2 .given .1))
+
+slice-aggregate-print-output-2 : tie.Need-slice-aggregate-print-output-2
+slice-aggregate-print-output-2 c = sym (length-take-le _ _ (read-within _ (c .before .before .before .before .before .read-input .ensures) (inr (c .before .before .input2 .given .1))))
+
+print-output-requires-2 : tie.Need-print-output-requires-2
+print-output-requires-2 c κs = search needs
+
 enum-told : tie.Need-enum-told
 enum-told c = search needs
 
@@ -24,17 +46,11 @@ say-unreadable-requires c κs = search needs
 returns : tie.Need-returns
 returns c = search needs
 
-array-share-prefix-text : tie.Need-array-share-prefix-text
-array-share-prefix-text c = read-within (c .before .before .before .before .read-input .last .0) (c .before .input .given .1) (c .before .before .before .before .read-input .ensures)
-
-slice-aggregate-print-output : tie.Need-slice-aggregate-print-output
-slice-aggregate-print-output c = sym (length-take-le _ _ (read-within (c .before .before .before .before .before .read-input .last .0) (c .before .before .input .given .1) (c .before .before .before .before .before .read-input .ensures)))
-
-print-output-requires : tie.Need-print-output-requires
-print-output-requires c κs = search needs
-
 returns-2 : tie.Need-returns-2
 returns-2 c = search needs
+
+returns-3 : tie.Need-returns-3
+returns-3 c = search needs
 
 pub main-spec : {M : Type 1} → statement M
 main-spec =
@@ -43,10 +59,15 @@ main-spec =
     slice-aggregate-read-input
     read-input-requires
     enum-known-input
-    enum-told
-    say-unreadable-requires
-    returns
     array-share-prefix-text
     slice-aggregate-print-output
     print-output-requires
-    returns-2)
+    enum-known-input-2
+    array-share-prefix-text-2
+    slice-aggregate-print-output-2
+    print-output-requires-2
+    enum-told
+    say-unreadable-requires
+    returns
+    returns-2
+    returns-3)

@@ -1,10 +1,10 @@
 -- `generate::read_input` meets its contract. Assumes nothing.
-use mathlib.Core.Path.{_≡_, refl}
+use mathlib.Core.Path.{_≡_, _∙_}
 use Prim.Native.Nat.{_-_, _≤_}
 use native.Mathlib.Omega.{arith}
 use borrow.Author.Needs.{needs}
 use lib.ListN.{length}
-use Rattle.generate.proofs.InputLaws.{more-read, more-kept}
+use Rattle.generate.proofs.InputLaws.{read-on, read-ended, neither, same-room}
 use Rattle.generate.proofs.read_input.Statement.{statement}
 use Rattle.generate.proofs.read_input.Tie as tie
 
@@ -15,52 +15,50 @@ abbrev μ-loop : tie.MeasureT-loop
 μ-loop text₀ done₀ text done = length text₀ - done
 
 loop-holds : tie.Need-loop-holds Inv-loop μ-loop
-loop-holds c = (omega arith, refl)
+loop-holds c = search needs
 
-sub-read-some : tie.Need-sub-read-some Inv-loop μ-loop
-sub-read-some c = search needs
+sub-read : tie.Need-sub-read Inv-loop μ-loop
+sub-read c = search needs
 
-part-read-some-start : tie.Need-part-read-some-start Inv-loop μ-loop
-part-read-some-start c = search needs
+part-read-start : tie.Need-part-read-start Inv-loop μ-loop
+part-read-start c = search needs
 
-part-read-some-end : tie.Need-part-read-some-end Inv-loop μ-loop
-part-read-some-end c = search needs
+part-read-end : tie.Need-part-read-end Inv-loop μ-loop
+part-read-end c = search needs
 
-read-some-requires : tie.Need-read-some-requires Inv-loop μ-loop
-read-some-requires c κs = search needs
+read-requires : tie.Need-read-requires Inv-loop μ-loop
+read-requires c κs = search needs
 
-enum-known-n : tie.Need-enum-known-n Inv-loop μ-loop
-enum-known-n c = search needs
+next-requires : tie.Need-next-requires Inv-loop μ-loop
+next-requires c κs = search needs
 
-enum-told : tie.Need-enum-told Inv-loop μ-loop
-enum-told c = search needs
+enum-known-input : tie.Need-enum-known-input Inv-loop μ-loop
+enum-known-input c = search needs
 
 same-length : tie.Need-same-length Inv-loop μ-loop
 same-length c = search needs
 
 returns : tie.Need-returns Inv-loop μ-loop
-returns c = search needs
+returns c =
+    let same = same-room (c .before .before .before .before .before .before .before .loop .done) (c .before .before .before .before .before .before .before .loop .text) (c .before .before .before .before .read .last .1 .0) (search needs) in
+    rw same (read-ended _ _ _ (c .before .next .ensures) (search needs) (λ n p. neither (rw p at (c .match .keys2))))
+
+loop-less : tie.Need-loop-less Inv-loop μ-loop
+loop-less c =
+    let (further, within) = read-on _ _ _ (c .before .before .before .next .ensures) (search needs) (c .before .input .given .1) in
+    omega (arith, c .before .before .before .before .before .before .before .before .before .loop .inv .1)
+
+loop-again : tie.Need-loop-again Inv-loop μ-loop
+loop-again c =
+    let (further, within) = read-on _ _ _ (c .before .before .before .next .ensures) (search needs) (c .before .input .given .1) in
+    let same = same-room (c .before .before .before .before .before .before .before .before .before .loop .done) (c .before .before .before .before .before .before .before .before .before .loop .text) (c .before .before .before .before .before .before .read .last .1 .0) (search needs) in
+    (omega arith, same ∙ c .before .before .before .before .before .before .before .before .before .loop .inv .1)
 
 same-length-2 : tie.Need-same-length-2 Inv-loop μ-loop
 same-length-2 c = search needs
 
 returns-2 : tie.Need-returns-2 Inv-loop μ-loop
 returns-2 c = search needs
-
-add-done : tie.Need-add-done Inv-loop μ-loop
-add-done c = let m = more-read (c .before .before .before .before .before .before .before .before .before .loop .done) (c .before .before .before .before .before .before .before .before .before .loop .text) (c .before .before .before .before .before .before .read-some .last .0) (c .before .before .n .given .1) (c .before .before .before .before .before .before .read-some .ensures) (c .before .before .before .before .before .before .before .before .before .loop .inv .0) (search needs) in search (needs, m)
-
-loop-less : tie.Need-loop-less Inv-loop μ-loop
-loop-less c = search needs
-
-loop-again : tie.Need-loop-again Inv-loop μ-loop
-loop-again c = more-kept (c .before .before .before .before .before .before .before .before .before .loop .done) (c .before .before .before .before .before .before .before .before .before .loop .text) (c .before .before .before .before .before .before .read-some .last .0) (c .before .before .n .given .1) (c .before .before .before .before .before .before .read-some .ensures) (c .before .before .before .before .before .before .before .before .before .loop .inv .0) (search needs) (c .before .before .before .before .before .before .before .before .before .before .before .args .text .now) (c .before .before .before .before .before .before .before .before .before .loop .inv .1)
-
-same-length-3 : tie.Need-same-length-3 Inv-loop μ-loop
-same-length-3 c = search needs
-
-returns-3 : tie.Need-returns-3 Inv-loop μ-loop
-returns-3 c = search needs
 
 pub read-input-spec : {M : Type 1} → statement M
 read-input-spec =
@@ -69,18 +67,15 @@ read-input-spec =
     Inv-loop
     μ-loop
     loop-holds
-    sub-read-some
-    part-read-some-start
-    part-read-some-end
-    read-some-requires
-    enum-known-n
-    enum-told
+    sub-read
+    part-read-start
+    part-read-end
+    read-requires
+    next-requires
+    enum-known-input
     same-length
     returns
-    same-length-2
-    returns-2
-    add-done
     loop-less
     loop-again
-    same-length-3
-    returns-3)
+    same-length-2
+    returns-2)
