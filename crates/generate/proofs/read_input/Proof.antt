@@ -40,7 +40,8 @@ same-length c = search needs
 
 returns : tie.Need-returns Inv-loop μ-loop
 returns c =
-    let same = same-room (c .before .before .before .before .before .before .before .loop .done) (c .before .before .before .before .before .before .before .loop .text) (c .before .before .before .before .read .last .1 .0) (search needs) in
+    let at = c .before .before .before .before .before .before .before .loop in
+    let same = same-room (at .done) (at .text) (c .before .before .before .before .read .last .1 .0) (search needs) in
     rw same (read-ended _ _ _ (c .before .next .ensures) (search needs) (λ n p. neither (rw p at (c .match .keys2))))
 
 loop-less : tie.Need-loop-less Inv-loop μ-loop
@@ -51,8 +52,9 @@ loop-less c =
 loop-again : tie.Need-loop-again Inv-loop μ-loop
 loop-again c =
     let (further, within) = read-on _ _ _ (c .before .before .before .next .ensures) (search needs) (c .before .input .given .1) in
-    let same = same-room (c .before .before .before .before .before .before .before .before .before .loop .done) (c .before .before .before .before .before .before .before .before .before .loop .text) (c .before .before .before .before .before .before .read .last .1 .0) (search needs) in
-    (omega arith, same ∙ c .before .before .before .before .before .before .before .before .before .loop .inv .1)
+    let at = c .before .before .before .before .before .before .before .before .before .loop in
+    let same = same-room (at .done) (at .text) (c .before .before .before .before .before .before .read .last .1 .0) (search needs) in
+    (omega arith, same ∙ at .inv .1)
 
 same-length-2 : tie.Need-same-length-2 Inv-loop μ-loop
 same-length-2 c = search needs
