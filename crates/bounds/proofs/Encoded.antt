@@ -5,10 +5,10 @@ use Prim.Native.Nat.{ℕ}
 use lib.IntN.{ℤ}
 use lib.ListN.{drop}
 use Rattle.meaning.specs.Syntax.{Expr, Cond}
-use Rattle.meaning.specs.Prefix.{encodeE, encodeC}
-use Rattle.meaning.specs.Reading.{readE, readC, InLimitsE, InLimitsC}
+use Rattle.language.specs.Prefix.{encodeE, encodeC}
+use Rattle.language.specs.Reading.{readE, readC, InLimitsE, InLimitsC}
 use Rattle.meaning.specs.Bounds.{withinC, allowedE, allowedC}
-use Rattle.meaning.proofs.PrefixForms.{backE, backC}
+use Rattle.language.proofs.PrefixForms.{backE, backC}
 use Rattle.bounds.specs.Catalog.{itemsIn}
 use Rattle.bounds.specs.Walk.{columnsOf, widthsIn, rangedE, SizesE, TestsC}
 use Rattle.bounds.specs.declared.Rule.{Rule}

@@ -8,8 +8,8 @@ use lib.Dec.{ltb, leb}
 use lib.ListN.{length, getD, drop}
 use Rattle.value.proofs.Places.{byte-here, two-here}
 use Rattle.meaning.specs.Syntax.{Expr}
-use Rattle.meaning.specs.Reading.{Read, done, refuse, byte, byteIf, either, twoBytes, step, place}
-use Rattle.meaning.proofs.Readers.{then-ok}
+use Rattle.language.specs.Reading.{Read, done, refuse, byte, byteIf, either, twoBytes, step, place}
+use Rattle.language.proofs.Readers.{then-ok}
 
 -- what is known of what was read is known of what it is equal to
 pub settle : {A : Type 0} (P : A → List ℕ → Type 0) {a b : A} {l m : List ℕ} → Read.ok a l ≡ Read.ok b m → P a l → P b m

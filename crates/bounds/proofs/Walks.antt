@@ -16,11 +16,11 @@ use Rattle.range.specs.Ranges.{ranged, constantOf}
 use Rattle.range.specs.declared.Range.{Range}
 use Rattle.range.specs.declared.Ranged.{Ranged}
 use Rattle.meaning.specs.Syntax.{Expr, Cond}
-use Rattle.meaning.specs.Prefix.{operationToken, comparisonToken, connectiveToken}
-use Rattle.meaning.specs.Reading.{Read, byte, byteIf, step, choose, expressions, conditions, readE, readC}
+use Rattle.language.specs.Prefix.{operationToken, comparisonToken, connectiveToken}
+use Rattle.language.specs.Reading.{Read, byte, byteIf, step, choose, expressions, conditions, readE, readC}
 use Rattle.meaning.specs.Bounds.{withinC, allowedE, allowedC}
-use Rattle.meaning.proofs.Readers.{then-ok}
-use Rattle.meaning.proofs.PrefixForms.{readE-nil, readC-nil, readE-step, readC-step, readE-operation, readC-comparison, readC-connection}
+use Rattle.language.proofs.Readers.{then-ok}
+use Rattle.language.proofs.PrefixForms.{readE-nil, readC-nil, readE-step, readC-step, readE-operation, readC-comparison, readC-connection}
 use Rattle.bounds.specs.Catalog.{itemsIn}
 use Rattle.bounds.specs.Walk.{columnsOf, insideOf, widthsIn, rangedE, operatedR, roundedR, chosenR, aggregatedR, isWithin, sized, tested, columnAt, SizesE, SizesTwo, TestsC}
 use Rattle.bounds.specs.declared.Rule.{Rule}

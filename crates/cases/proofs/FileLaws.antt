@@ -17,7 +17,7 @@ use Rattle.meaning.proofs.Elements.{all-image, all-append}
 use Rattle.meaning.proofs.Sizes.{length-hulls}
 use Rattle.meaning.proofs.Relations.{query-split}
 use Rattle.meaning.proofs.Stacks.{length-snoc, stack-take, stack-at, length-stack}
-use Rattle.rules.specs.Legal.{Legal, LegalTable, LegalView, EveryView}
+use Rattle.language.specs.Legal.{Legal, LegalTable, LegalView, EveryView}
 use Rattle.cases.specs.Relations.{Small}
 
 -- a property of every view is one of each, over the schemas before it

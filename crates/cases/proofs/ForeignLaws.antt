@@ -16,8 +16,8 @@ use Rattle.meaning.specs.Syntax.{Row, Pair, ForeignKey, File, Database}
 use Rattle.meaning.specs.Evaluation.{missing}
 use Rattle.meaning.specs.Valid.{agrees, foreignKeyHolds}
 use Rattle.meaning.proofs.Elements.{all-at}
-use Rattle.rules.specs.Legal.{LegalKey, LegalPair, tableAt}
-use Rattle.rules.specs.Written.{keyBytes}
+use Rattle.language.specs.Legal.{LegalKey, LegalPair, tableAt}
+use Rattle.language.specs.Written.{keyBytes}
 use Rattle.store.specs.Layout.{cellIn}
 use Rattle.store.specs.Rows.{rowIn, rowsIn}
 use Rattle.store.proofs.RowLaws.{cell-of-row}

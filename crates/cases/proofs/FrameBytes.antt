@@ -7,8 +7,8 @@ use lib.Seq.{getD-drop, drop-drop, drop-append-seam}
 use Rattle.value.proofs.Places.{byte-here, two-here}
 use Rattle.meaning.specs.Lists.{joined}
 use Rattle.meaning.specs.Syntax.{Expr, Cond, Place, View}
-use Rattle.meaning.specs.Prefix.{encodeE, encodeC}
-use Rattle.rules.specs.Written.{viewBytes}
+use Rattle.language.specs.Prefix.{encodeE, encodeC}
+use Rattle.language.specs.Written.{viewBytes}
 use Rattle.views.specs.Grouping.{placesBytes}
 use Rattle.cases.specs.Relations.{kindOf}
 

@@ -15,9 +15,9 @@ use Rattle.meaning.specs.Evaluation.{missing}
 use Rattle.meaning.specs.Valid.{differ, keyHolds}
 use Rattle.meaning.proofs.Stacks.{by-lt}
 use Rattle.bounds.specs.Catalog.{widthAt, maskAt}
-use Rattle.rules.specs.Frames.{noTable}
-use Rattle.rules.specs.Legal.{tableAt}
-use Rattle.rules.specs.Written.{maskOf}
+use Rattle.language.specs.Frames.{noTable}
+use Rattle.language.specs.Legal.{tableAt}
+use Rattle.language.specs.Written.{maskOf}
 use Rattle.rules.proofs.PairLaws.{bit-first, bits-after}
 use Rattle.store.specs.Layout.{cellIn}
 use Rattle.store.specs.Rows.{rowIn, rowsIn}

@@ -20,9 +20,9 @@ use Rattle.meaning.proofs.DecidedLists.{cons-all}
 use Rattle.meaning.proofs.Relations.{query-split}
 use Rattle.meaning.proofs.WellFormed.{rules}
 use Rattle.meaning.proofs.Stacks.{by-lt, getElem-some}
-use Rattle.rules.specs.Legal.{Legal}
-use Rattle.rules.specs.Written.{viewBytes}
-use Rattle.rules.proofs.LegalAccepted.{legal-wellFormed}
+use Rattle.language.specs.Legal.{Legal}
+use Rattle.language.specs.Written.{viewBytes}
+use Rattle.language.proofs.LegalAccepted.{legal-wellFormed}
 use Rattle.cases.specs.Given.{Given}
 use Rattle.cases.specs.Needs.{Flag, Asks, Wants, ownConditions, Names, More, NamesSet, NeedsRows, NeedsSigns, NeedsGoal, NeedsOf}
 use Rattle.cases.specs.declared.outline.Outline.{Outline}

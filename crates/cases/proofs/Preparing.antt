@@ -13,7 +13,7 @@ use Rattle.meaning.specs.Syntax.{View, File, Database}
 use Rattle.meaning.specs.Algebra.{query}
 use Rattle.meaning.specs.Bounds.{names}
 use Rattle.meaning.proofs.Relations.{query-split}
-use Rattle.rules.specs.Legal.{Legal, tableAt}
+use Rattle.language.specs.Legal.{Legal, tableAt}
 use Rattle.store.specs.Rows.{rowsIn}
 use Rattle.cases.specs.Given.{Given, TablesIn, TablesCounted}
 use Rattle.cases.specs.Needs.{Flag, Asks, Wants, Covers}

@@ -25,9 +25,9 @@ use Rattle.meaning.proofs.DecidedCases.{Stacked, negative-view}
 use Rattle.meaning.proofs.Relations.{rows-view}
 use Rattle.meaning.proofs.RangesHold.{ranges-hold, query-clear}
 use Rattle.meaning.proofs.Stacks.{getElem-some}
-use Rattle.rules.proofs.LegalAccepted.{legal-wellFormed}
-use Rattle.rules.specs.Legal.{Legal}
-use Rattle.rules.specs.Written.{viewBytes}
+use Rattle.language.proofs.LegalAccepted.{legal-wellFormed}
+use Rattle.language.specs.Legal.{Legal}
+use Rattle.language.specs.Written.{viewBytes}
 use Rattle.bounds.specs.Catalog.{widthAt}
 use Rattle.store.specs.Layout.{area}
 use Rattle.store.specs.Rows.{rowsIn}

@@ -16,8 +16,8 @@ use Rattle.meaning.proofs.ListSteps.{map-at}
 use Rattle.meaning.proofs.Stacks.{stack-keeps}
 use Rattle.meaning.proofs.DecidedLists.{each-length}
 use Rattle.meaning.proofs.DecidedValidity.{shaped-dec}
-use Rattle.rules.specs.Frames.{noTable}
-use Rattle.rules.specs.Legal.{tableAt}
+use Rattle.language.specs.Frames.{noTable}
+use Rattle.language.specs.Legal.{tableAt}
 use Rattle.cases.specs.Given.{Given, TablesIn}
 use Rattle.cases.specs.Validity.{ForeignsHeld, KeysHeld, Validates}
 use Rattle.cases.specs.declared.outline.Outline.{Outline}

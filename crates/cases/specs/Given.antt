@@ -13,8 +13,8 @@ use Rattle.meaning.specs.Syntax.{View, File, Database}
 use Rattle.meaning.specs.Algebra.{query}
 use Rattle.meaning.specs.Bounds.{schema, schemas}
 use Rattle.bounds.specs.Catalog.{widthAt, boundAt, maskAt}
-use Rattle.rules.specs.Legal.{Legal, tableAt}
-use Rattle.rules.specs.Written.{maskOf, tableBytes, keyBytes, viewBytes}
+use Rattle.language.specs.Legal.{Legal, tableAt}
+use Rattle.language.specs.Written.{maskOf, tableBytes, keyBytes, viewBytes}
 use Rattle.rules.specs.Plans.{PlanOf}
 use Rattle.rules.specs.declared.plan.Plan.{Plan}
 use Rattle.store.specs.Rows.{rowsIn}

@@ -12,7 +12,7 @@ use Rattle.meaning.specs.Bounds.{Schema, schema, schemas, viewSchema}
 use Rattle.meaning.specs.Valid.{Shaped}
 use Rattle.meaning.specs.Cases.{refuted as refutedB, negative, isCase}
 use Rattle.bounds.specs.Catalog.{widthAt}
-use Rattle.rules.specs.Written.{viewBytes}
+use Rattle.language.specs.Written.{viewBytes}
 use Rattle.store.specs.Layout.{area}
 use Rattle.store.specs.Rows.{rowsIn}
 use Rattle.views.specs.Copies.{Apart}

@@ -9,7 +9,7 @@ use Rattle.value.specs.Bag.{All}
 use Rattle.meaning.specs.Syntax.{View, File}
 use Rattle.meaning.specs.Algebra.{query}
 use Rattle.meaning.specs.Bounds.{names}
-use Rattle.rules.specs.Written.{viewBytes}
+use Rattle.language.specs.Written.{viewBytes}
 use Rattle.cases.specs.Given.{Given}
 use Rattle.cases.specs.declared.outline.Outline.{Outline}
 use Rattle.cases.specs.declared.needs.Named.{Named}

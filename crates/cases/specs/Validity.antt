@@ -11,8 +11,8 @@ use Rattle.meaning.specs.Lists.{all, any, pairwise, each, joined}
 use Rattle.meaning.specs.Syntax.{Table, Pair, ForeignKey, File, Database}
 use Rattle.meaning.specs.Valid.{Shaped, differ, keyHolds, agrees, foreignKeyHolds, valid}
 use Rattle.bounds.specs.Catalog.{widthAt, maskAt}
-use Rattle.rules.specs.Legal.{LegalKey, LegalPair, tableAt}
-use Rattle.rules.specs.Written.{maskOf, keyBytes}
+use Rattle.language.specs.Legal.{LegalKey, LegalPair, tableAt}
+use Rattle.language.specs.Written.{maskOf, keyBytes}
 use Rattle.store.specs.Rows.{rowIn, rowsIn}
 use Rattle.cases.specs.Given.{Given, TablesIn}
 use Rattle.cases.specs.declared.outline.Outline.{Outline}

@@ -5,13 +5,14 @@ use Prim.Native.Nat.{ℕ, _+_, _*_, _/_, _%_, _<_}
 use native.Mathlib.Omega.{arith}
 use lib.IntN.{ℤ}
 use Rattle.meaning.specs.Look.{Answer, After, answerIn, workIn, instIn}
-use Rattle.rules.specs.Check.{Outcome}
+use Rattle.language.specs.Check.{Outcome}
 use Rattle.rules.specs.Plans.{Plans}
 use Rattle.rules.specs.declared.plan.Plan.{Plan}
-use Rattle.look.specs.Looks.{answerOf, lookOf}
+use Rattle.look.specs.Looks.{answerOf}
+use Rattle.language.specs.LookOf.{lookOf}
 use Rattle.look.specs.declared.Answer.{Answer as Answered}
 use Rattle.look.specs.declared.Answer.the-variants.{Case, NoCase, Spent, Refused}
-use Rattle.look.proofs.RealLooks.{refused-unchanged}
+use Rattle.language.proofs.RealLooks.{refused-unchanged}
 use Rattle.export.specs.Answers.{checkAnswer, payloadCount, lookAnswer, Looks}
 
 -- ---- a check

@@ -11,11 +11,11 @@ use Rattle.value.proofs.Decides.{by-test}
 use Rattle.meaning.specs.Syntax.{File}
 use Rattle.meaning.specs.Candidates.{cellCount, candidates}
 use Rattle.meaning.specs.Look.{Answer, answerIn, workSize, verdict, candidate, seek, look}
-use Rattle.rules.specs.Check.{Outcome, candidateLimit}
-use Rattle.rules.specs.FileOf.{fileOf}
-use Rattle.rules.proofs.Refusals.{refusal-limits}
-use Rattle.rules.proofs.TextLaws.{accepted-text}
-use Rattle.look.specs.Looks.{lookOf, lookAt}
+use Rattle.language.specs.Check.{Outcome, candidateLimit}
+use Rattle.language.specs.FileOf.{fileOf}
+use Rattle.language.proofs.Refusals.{refusal-limits}
+use Rattle.language.proofs.TextLaws.{accepted-text}
+use Rattle.language.specs.LookOf.{lookOf, lookAt}
 use Rattle.export.specs.Answers.{checkAnswer, Readable, payloadCount, lookAnswer, answerAt, answerBack}
 
 -- ---- a look

@@ -8,8 +8,8 @@ use lib.Dec.{eqb}
 use lib.IntN.{ℤ}
 use Rattle.meaning.specs.Syntax.{File}
 use Rattle.meaning.specs.Look.{Answer, answerIn, workIn, instIn, numberOf, valuesOf}
-use Rattle.rules.specs.Check.{Outcome}
-use Rattle.look.specs.Looks.{lookOf}
+use Rattle.language.specs.Check.{Outcome}
+use Rattle.language.specs.LookOf.{lookOf}
 
 -- ---- a check
 

@@ -3,7 +3,7 @@ use look;
 use look::Answer;
 use rules::plan;
 ghost use mathlib.Core.Path.{_≡_};
-ghost use Rattle.rules.specs.FileOf.{fileOf};
+ghost use Rattle.language.specs.FileOf.{fileOf};
 ghost use Rattle.look.specs.Looks.{answerOf};
 ghost use Rattle.export.specs.Answers.{checkAnswer, lookAnswer, Looks};
 

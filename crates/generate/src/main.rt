@@ -2,7 +2,7 @@
 ghost use mathlib.Core.Path.{_≡_};
 ghost use Prim.Native.Nat.{_≤_};
 ghost use lib.ListN.{length};
-ghost use Rattle.report.specs.Output.{inputRoom, outputOf};
+ghost use Rattle.language.specs.OutputOf.{inputRoom, outputOf};
 ghost use Rattle.generate.specs.Input.{inputOf, Reads};
 
 const STDIN: i32 = 0;

@@ -12,7 +12,7 @@ use Rattle.meaning.specs.Lists.{copies}
 use Rattle.meaning.specs.Syntax.{Table, File}
 use Rattle.meaning.specs.Candidates.{cellColumns}
 use Rattle.bounds.specs.Catalog.{widthAt, boundAt}
-use Rattle.rules.specs.Legal.{LegalTable, tableAt}
+use Rattle.language.specs.Legal.{LegalTable, tableAt}
 use Rattle.store.specs.Rows.{listed}
 use Rattle.store.proofs.Listed.{length-listed}
 use Rattle.look.specs.Cells.{code, rowCodes, tableCodes, allCodes, codesOf, Codes, RowCoded, TableCoded, TablesCoded}

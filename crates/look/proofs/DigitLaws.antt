@@ -14,7 +14,7 @@ use Rattle.meaning.specs.Candidates.{cellColumns, product, values}
 use Rattle.meaning.proofs.Elements.{all-append, all-at}
 use Rattle.meaning.proofs.Digits.{size-above}
 use Rattle.meaning.proofs.Numbering.{all-copies}
-use Rattle.rules.specs.Legal.{Legal, LegalTable, LegalColumn}
+use Rattle.language.specs.Legal.{Legal, LegalTable, LegalColumn}
 use Rattle.look.specs.Moves.{noColumn}
 
 -- ---- quotients

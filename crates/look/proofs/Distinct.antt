@@ -9,7 +9,7 @@ use lib.ListN.{length, getD, set}
 use Rattle.value.specs.Value.{Value}
 use Rattle.meaning.specs.Syntax.{File}
 use Rattle.meaning.proofs.Elements.{all-at}
-use Rattle.rules.specs.Legal.{Legal, LegalTable, tableAt}
+use Rattle.language.specs.Legal.{Legal, LegalTable, tableAt}
 use Rattle.store.specs.Layout.{area, putCell}
 use Rattle.store.specs.Rows.{listed}
 use Rattle.store.proofs.CellLaws.{put-cell-there, put-cell-other}

@@ -15,11 +15,11 @@ use Rattle.meaning.specs.Candidates.{database}
 use Rattle.meaning.specs.Cases.{Case}
 use Rattle.meaning.proofs.Demand2.{cases}
 use Rattle.meaning.proofs.Relations.{rows-mean}
-use Rattle.rules.specs.Check.{Outcome}
-use Rattle.rules.specs.FileOf.{fileOf}
+use Rattle.language.specs.Check.{Outcome}
+use Rattle.language.specs.FileOf.{fileOf}
 use Rattle.rules.specs.Plans.{Plans}
 use Rattle.rules.specs.declared.plan.Plan.{Plan}
-use Rattle.rules.proofs.TextLaws.{accepted-text}
+use Rattle.language.proofs.TextLaws.{accepted-text}
 use Rattle.store.specs.Layout.{area}
 use Rattle.cases.specs.Given.{Given, Outlines, TablesCounted}
 use Rattle.cases.specs.Needs.{Wants, Covers, NeedsOf}

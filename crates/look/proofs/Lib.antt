@@ -13,5 +13,3 @@ pub mod EvaluatedRows
 -- the buffers and a look
 pub mod BufferLaws
 pub mod LookLaws
--- demand 3
-pub mod RealLooks

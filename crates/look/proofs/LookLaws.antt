@@ -12,18 +12,20 @@ use Rattle.value.specs.Value.{Value, shown}
 use Rattle.meaning.specs.Syntax.{File}
 use Rattle.meaning.specs.Candidates.{cellCount, candidates, cells}
 use Rattle.meaning.specs.Look.{Answer, After, seek, zeros, workSize, candidate, shownIn, verdict, look}
-use Rattle.rules.specs.Check.{Outcome}
-use Rattle.rules.specs.FileOf.{fileOf}
+use Rattle.meaning.proofs.LookTests.{look-short, look-late, look-on, verdict-case, verdict-none}
+use Rattle.language.specs.Check.{Outcome}
+use Rattle.language.specs.FileOf.{fileOf}
 use Rattle.rules.specs.Plans.{Plans}
 use Rattle.rules.specs.declared.plan.Plan.{Plan}
-use Rattle.rules.proofs.TextLaws.{accepted-text}
+use Rattle.language.proofs.TextLaws.{accepted-text}
 use Rattle.cases.specs.Given.{Given, Outlines}
 use Rattle.cases.specs.declared.outline.Outline.{Outline}
 use Rattle.look.specs.Cells.{codesOf, cellsIn, TablesCoded}
 use Rattle.look.specs.Moves.{Digits}
 use Rattle.look.specs.Scans.{Searches}
 use Rattle.look.specs.Buffers.{Shows}
-use Rattle.look.specs.Looks.{answerOf, lookAt, lookOf, Concludes, Finds}
+use Rattle.look.specs.Looks.{answerOf, Concludes, Finds}
+use Rattle.language.specs.LookOf.{lookAt, lookOf}
 use Rattle.look.specs.declared.Answer.{Answer as Answered}
 use Rattle.look.specs.declared.Answer.the-variants.{Case, NoCase, Spent, Refused}
 use Rattle.look.proofs.Standing.{digits-given}
@@ -35,31 +37,6 @@ concluded-none {end} {n} e = record { concludes = rw (eq-eqb end n e) }
 
 pub concluded-spent : {end n : ℕ} → (end ≡ n → ⊥) → Concludes end n (Spent end)
 concluded-spent {end} {n} h = record { concludes = rw (ne-eqb end n h) }
-
--- ---- the definition, test by test
-
-module _ (F : File) (start count : ℕ) (work inst : List ℤ) where
-  look-short : workSize ≤ length work → length inst < cellCount F → look F start count work inst ≡ After.after (Answer.refused 12 0) work inst
-  unfolding look
-  look-short h i = rw (le-ltb (length work) workSize h, lt-ltb (length inst) (cellCount F) i)
-
-  look-late : workSize ≤ length work → cellCount F ≤ length inst → candidates F < start
-      → look F start count work inst ≡ After.after (Answer.refused 13 0) work inst
-  unfolding look
-  look-late h i l = rw (le-ltb (length work) workSize h, le-ltb (length inst) (cellCount F) i, lt-ltb (candidates F) start l)
-
-  pub look-on : (end : ℕ) → workSize ≤ length work → cellCount F ≤ length inst → start ≤ candidates F → end ≡ min (start + count) (candidates F)
-      → look F start count work inst ≡ verdict F end (seek (candidate F) start (end - start)) work inst
-  unfolding look
-  look-on end h i l e = rw (e, le-ltb (length work) workSize h, le-ltb (length inst) (cellCount F) i, le-ltb (candidates F) start l)
-
-module _ (F : File) (work inst : List ℤ) where
-  pub verdict-case : (end k : ℕ) → k < end → verdict F end k work inst ≡ After.after (Answer.case k) (zeros work) (shownIn F k inst)
-  verdict-case end k h = rw (lt-ltb k end h)
-
-  pub verdict-none : (end k : ℕ) → end ≤ k
-      → verdict F end k work inst ≡ After.after (cond (eqb end (candidates F)) Answer.noCase (Answer.spent end)) (zeros work) inst
-  verdict-none end k h = rw (le-ltb k end h)
 
 -- ---- a look at an accepted file
 

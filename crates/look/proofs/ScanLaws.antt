@@ -19,8 +19,8 @@ use Rattle.meaning.specs.Look.{candidate}
 use Rattle.meaning.proofs.Demand3.{every-database}
 use Rattle.meaning.proofs.Elements.{map-same}
 use Rattle.meaning.proofs.Seeks.{sought-one}
-use Rattle.rules.specs.Legal.{Legal}
-use Rattle.rules.proofs.LegalAccepted.{legal-wellFormed}
+use Rattle.language.specs.Legal.{Legal}
+use Rattle.language.proofs.LegalAccepted.{legal-wellFormed}
 use Rattle.store.specs.Layout.{area}
 use Rattle.store.proofs.RowLaws.{cell-of-rows}
 use Rattle.views.proofs.Marking.{never}

@@ -18,8 +18,8 @@ use Rattle.meaning.proofs.Numbering.{length-joined, cut-joined}
 use Rattle.bounds.specs.Catalog.{widthAt, boundAt}
 use Rattle.rules.specs.Entries.{columnFrom}
 use Rattle.rules.specs.Packed.{columnsFrom}
-use Rattle.rules.specs.Legal.{Legal, LegalTable, tableAt}
-use Rattle.rules.specs.Written.{columnBytes, tableBytes}
+use Rattle.language.specs.Legal.{Legal, LegalTable, tableAt}
+use Rattle.language.specs.Written.{columnBytes, tableBytes}
 use Rattle.rules.proofs.CandidateLaws.{columns-back}
 use Rattle.rules.proofs.PlanLaws.{legal-bits}
 use Rattle.store.specs.Layout.{cellIn}

@@ -9,7 +9,7 @@ use lib.ListN.{length, getD, replicate}
 use Rattle.meaning.specs.Syntax.{File, Database}
 use Rattle.meaning.specs.Algebra.{MeaningOf}
 use Rattle.meaning.specs.Bounds.{schemas}
-use Rattle.rules.specs.FileOf.{fileOf}
+use Rattle.language.specs.FileOf.{fileOf}
 use Rattle.rules.specs.Plans.{Plans}
 use Rattle.rules.specs.declared.plan.Plan.{Plan}
 use Rattle.store.specs.Rows.{rowsIn}

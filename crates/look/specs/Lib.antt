@@ -1,7 +1,8 @@
--- What a reader must believe of looks.
+-- What the parts of a look give.
+-- the answers, and a candidate before the evaluator
 pub mod Looks
 pub mod Evaluations
--- what the parts of the code give
+-- cells, moves, the search, the buffers
 pub mod Cells
 pub mod Moves
 pub mod Scans

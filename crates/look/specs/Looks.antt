@@ -1,17 +1,14 @@
--- A look at a text: "Order: 11, 1, 2 over the whole text, then frames in turn, then 3 for no goal, 10, 12, 13". Assumes nothing: these are
--- definitions, and they compute.
+-- The answers of a look, and what the functions of this crate give. Assumes nothing: these are definitions.
 use mathlib.Core.Path.{_≡_}
 use mathlib.Core.Bool.{cond}
 use mathlib.Core.List.{List}
 use Prim.Native.Nat.{ℕ, _≤_}
-use lib.Dec.{ltb, eqb}
+use lib.Dec.{eqb}
 use lib.IntN.{ℤ}
 use lib.ListN.{length}
 use Rattle.meaning.specs.Syntax.{File}
 use Rattle.meaning.specs.Candidates.{candidates}
-use Rattle.meaning.specs.Look.{Answer, After, refusal, workSize, look}
-use Rattle.rules.specs.Check.{Outcome}
-use Rattle.rules.specs.FileOf.{fileOf}
+use Rattle.meaning.specs.Look.{Answer, After, workSize, look}
 use Rattle.cases.specs.Given.{Given}
 use Rattle.cases.specs.declared.outline.Outline.{Outline}
 use Rattle.look.specs.declared.Answer.{Answer as Answered}
@@ -23,14 +20,6 @@ answerOf (Case k) = Answer.case k
 answerOf NoCase = Answer.noCase
 answerOf (Spent next) = Answer.spent next
 answerOf (Refused n l) = Answer.refused n l
-
--- "A refusal returns its number and a line .. no buffer changes"
-abbrev pub lookAt : Outcome → ℕ → ℕ → List ℤ → List ℤ → After
-lookAt (Outcome.refused n l) start count work inst = After.after (Answer.refused n l) work inst
-lookAt (Outcome.accepted F) start count work inst = look F start count work inst
-
-unfoldable pub lookOf : List ℕ → ℕ → ℕ → List ℤ → List ℤ → After
-lookOf text start count work inst = cond (ltb (length work) workSize) (refusal 11 work inst) (lookAt (fileOf text) start count work inst)
 
 -- ---- what the code gives
 

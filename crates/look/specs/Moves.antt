@@ -8,7 +8,7 @@ use Rattle.value.specs.Value.{Column, size, digit, narrowed}
 use Rattle.meaning.specs.Syntax.{File}
 use Rattle.meaning.specs.Candidates.{cellColumns, cells}
 use Rattle.rules.specs.Entries.{columnFrom}
-use Rattle.rules.specs.Legal.{Legal}
+use Rattle.language.specs.Legal.{Legal}
 use Rattle.store.specs.Layout.{area, putCell}
 use Rattle.store.specs.Rows.{rowsIn}
 use Rattle.look.specs.Cells.{codesOf, cellsIn, Codes}

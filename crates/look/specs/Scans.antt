@@ -8,7 +8,7 @@ use lib.ListN.{length, getD}
 use Rattle.meaning.specs.Syntax.{File}
 use Rattle.meaning.specs.Candidates.{cells as cellsOf}
 use Rattle.meaning.specs.Look.{seek, candidate}
-use Rattle.rules.specs.Legal.{tableAt}
+use Rattle.language.specs.Legal.{tableAt}
 use Rattle.store.specs.Layout.{area}
 use Rattle.cases.specs.Given.{Given}
 use Rattle.cases.specs.Needs.{Covers}

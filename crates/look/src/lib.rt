@@ -9,7 +9,8 @@ use cases::outline::Outline;
 use rules::plan;
 ghost use mathlib.Core.Path.{_≡_};
 ghost use Rattle.meaning.specs.Look.{After};
-ghost use Rattle.look.specs.Looks.{answerOf, lookOf, Concludes, Finds};
+ghost use Rattle.look.specs.Looks.{answerOf, Concludes, Finds};
+ghost use Rattle.language.specs.LookOf.{lookOf};
 
 // The work area has at least this many numbers.
 pub const AREA: usize = 9216;

@@ -15,7 +15,7 @@ use Rattle.value.proofs.Decides.{dec-true}
 use Rattle.value.proofs.Values.{all-map}
 use Rattle.range.specs.Ranges.{columnOf}
 use Rattle.meaning.specs.Syntax.{File}
-use Rattle.meaning.specs.Reading.{deepE, readE, readC}
+use Rattle.language.specs.Reading.{deepE, readE, readC}
 use Rattle.meaning.specs.Rows.{rows}
 use Rattle.meaning.specs.Bounds.{schema, schemas}
 use Rattle.meaning.specs.Valid.{valid}
@@ -27,12 +27,12 @@ use Rattle.meaning.proofs.DecidedLists.{ltb-dec}
 use Rattle.meaning.proofs.OneLook.{passes-over-none}
 use Rattle.meaning.proofs.Relations.{rows-mean}
 use Rattle.text.specs.Text.{framesOf, linesOf, run, step, digit as hexValue, textOf, line, hex, hexDigit}
-use Rattle.rules.specs.Check.{Outcome, checkFrame, checkFrames}
-use Rattle.rules.specs.FileOf.{fileOf}
-use Rattle.rules.proofs.TextLaws.{accepted-text}
-use Rattle.look.proofs.RealLooks.{look-of-text, demand-3, look-says}
-use Rattle.look.specs.Looks.{lookOf}
-use Rattle.report.specs.Output.{numberBytes, tableFrame, searchedAll, outputOf}
+use Rattle.language.specs.Check.{Outcome, checkFrame, checkFrames}
+use Rattle.language.specs.FileOf.{fileOf}
+use Rattle.language.proofs.TextLaws.{accepted-text}
+use Rattle.language.proofs.RealLooks.{look-of-text, demand-3, look-says}
+use Rattle.language.specs.LookOf.{lookOf}
+use Rattle.language.specs.OutputOf.{numberBytes, tableFrame, searchedAll, outputOf}
 use Rattle.report.specs.Lines.{outputRoom, Printed}
 use Rattle.marked.specs.Table.{Entry, Gives, Judges, Prints, Right}
 

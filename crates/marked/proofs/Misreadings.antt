@@ -8,8 +8,8 @@ use Rattle.meaning.specs.Candidates.{database}
 use Rattle.meaning.specs.Look.{Answer}
 use Rattle.meaning.specs.Looks.{CaseAt, NoDatabase}
 use Rattle.meaning.proofs.Elements.{all-here}
-use Rattle.rules.specs.Check.{Outcome}
-use Rattle.rules.specs.FileOf.{fileOf}
+use Rattle.language.specs.Check.{Outcome}
+use Rattle.language.specs.FileOf.{fileOf}
 use Rattle.marked.specs.Table.{Entry, Gives, Right, program}
 use Rattle.marked.specs.Samples.{single}
 use Rattle.marked.proofs.Marked.{m1}

@@ -15,10 +15,10 @@ use Rattle.meaning.specs.Bounds.{schema, schemas}
 use Rattle.meaning.specs.Candidates.{cellCount, candidates, database}
 use Rattle.meaning.specs.Look.{Answer, After, workSize, zeros}
 use Rattle.meaning.specs.Looks.{CaseAt, NoDatabase, upTo}
-use Rattle.rules.specs.Check.{Outcome}
-use Rattle.rules.specs.FileOf.{fileOf}
-use Rattle.look.specs.Looks.{lookOf}
-use Rattle.report.specs.Output.{outputOf}
+use Rattle.language.specs.Check.{Outcome}
+use Rattle.language.specs.FileOf.{fileOf}
+use Rattle.language.specs.LookOf.{lookOf}
+use Rattle.language.specs.OutputOf.{outputOf}
 use Rattle.report.specs.Lines.{outputRoom, Printed}
 
 -- ---- entries, and what each says

@@ -1,9 +1,6 @@
 -- The theorems on the meaning, lowest first.
 -- what holds of elements
 pub mod Elements
--- prefix forms are read in one way
-pub mod Readers
-pub mod PrefixForms
 -- lists, bags and stacks
 pub mod DecidedLists
 pub mod ListBags
@@ -30,6 +27,7 @@ pub mod RangesHold
 pub mod Digits
 pub mod Numbering
 pub mod Seeks
+pub mod LookTests
 pub mod OneLook
 pub mod ListOfLooks
 pub mod Stretches

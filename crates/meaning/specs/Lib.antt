@@ -1,8 +1,6 @@
 -- What a reader must believe, in the order of document 01.
 pub mod Lists
 pub mod Syntax
-pub mod Prefix
-pub mod Reading
 pub mod Evaluation
 pub mod Rows
 pub mod Algebra

@@ -10,9 +10,9 @@ use native.Mathlib.Nat.{le-refl}
 use lib.Dec.{ltb, leb}
 use lib.ListN.{length, getD}
 use Rattle.meaning.specs.Syntax.{Expr}
-use Rattle.meaning.specs.Reading.{Read, Reader, done, refuse, andThen, _>>=_, byte, either, byteIf, twoBytes, step, place, readE, readC}
-use Rattle.meaning.proofs.Readers.{then-ok, alike-suffix, Agree, agree-done, agree-refuse, agree-byte}
-use Rattle.meaning.proofs.PrefixForms.{suffixE, suffixC, readE-nil, readC-nil}
+use Rattle.language.specs.Reading.{Read, Reader, done, refuse, andThen, _>>=_, byte, either, byteIf, twoBytes, step, place, readE, readC}
+use Rattle.language.proofs.Readers.{then-ok, alike-suffix, Agree, agree-done, agree-refuse, agree-byte}
+use Rattle.language.proofs.PrefixForms.{suffixE, suffixC, readE-nil, readC-nil}
 
 pub record Ends {A : Type 0} (m : Reader A) : Type 0 where
   pub suffix : (bs : List ℕ) (a : A) (rest : List ℕ) → m bs ≡ Read.ok a rest → (used : List ℕ) × (bs ≡ used ++ rest)

@@ -13,7 +13,7 @@ use lib.ListN.{length, getD, drop, drop-of-length-le}
 use Rattle.value.proofs.Decides.{by-test}
 use Rattle.value.proofs.Places.{from-byte}
 use Rattle.meaning.specs.Syntax.{Expr}
-use Rattle.meaning.specs.Reading.{Read, Reader, done, refuse, _>>=_, either, byteIf, twoBytes, step, place}
+use Rattle.language.specs.Reading.{Read, Reader, done, refuse, _>>=_, either, byteIf, twoBytes, step, place}
 use Rattle.prefix.specs.Skipped.{skipped}
 use Rattle.prefix.specs.declared.Skip.{Skip}
 use Rattle.prefix.specs.declared.Skip.the-variants.{Next, Refused}

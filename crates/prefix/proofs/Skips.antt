@@ -11,7 +11,7 @@ use native.Mathlib.Decide.{decLe}
 use native.Mathlib.Omega.{arith}
 use lib.ListN.{length, drop, length-append, length-drop, drop-of-length-le}
 use lib.Seq.{drop-drop, drop-append-seam}
-use Rattle.meaning.specs.Reading.{Read, Reader, done, andThen, _>>=_, readE, readC}
+use Rattle.language.specs.Reading.{Read, Reader, done, andThen, _>>=_, readE, readC}
 use Rattle.prefix.specs.Skipped.{skipOf, skipped}
 use Rattle.prefix.specs.declared.Skip.{Skip}
 use Rattle.prefix.specs.declared.Skip.the-variants.{Next, Refused}

@@ -12,8 +12,8 @@ use Rattle.value.proofs.Decides.{by-test}
 use Rattle.value.proofs.Places.{from-byte}
 use Rattle.value.specs.Value.{Operation, Comparison, Connective, aggregateAt}
 use Rattle.meaning.specs.Syntax.{Expr, Cond}
-use Rattle.meaning.specs.Reading.{Reader, done, _>>=_, byte, byteIf, twoBytes, step, place, choose, expressions, conditions, readE, readC}
-use Rattle.meaning.proofs.PrefixForms.{readE-step, readC-step}
+use Rattle.language.specs.Reading.{Reader, done, _>>=_, byte, byteIf, twoBytes, step, place, choose, expressions, conditions, readE, readC}
+use Rattle.language.proofs.PrefixForms.{readE-step, readC-step}
 use Rattle.prefix.specs.Skipped.{skipOf, skipped, twice, behindE, behindC}
 use Rattle.prefix.specs.declared.Skip.{Skip}
 use Rattle.prefix.specs.declared.Skip.the-variants.{Next, Refused}

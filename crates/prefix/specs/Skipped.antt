@@ -3,7 +3,7 @@ use mathlib.Core.List.{List}
 use Prim.Native.Nat.{ℕ, _-_}
 use lib.ListN.{length, drop}
 use Rattle.meaning.specs.Syntax.{Expr, Cond}
-use Rattle.meaning.specs.Reading.{Read, Reader, _>>=_, choose, expressions, conditions, readE, readC}
+use Rattle.language.specs.Reading.{Read, Reader, _>>=_, choose, expressions, conditions, readE, readC}
 use Rattle.prefix.specs.declared.Skip.{Skip}
 use Rattle.prefix.specs.declared.Skip.the-variants.{Next, Refused}
 

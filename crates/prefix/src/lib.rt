@@ -5,7 +5,7 @@ ghost use mathlib.Core.Bool.{cond, _&&_};
 ghost use Prim.Native.Nat.{_+_, _*_, _≤_};
 ghost use lib.Dec.{ltb, leb};
 ghost use lib.ListN.{length, getD};
-ghost use Rattle.meaning.specs.Reading.{byteIf, twoBytes, step as stepR, place as placeR, readE, readC};
+ghost use Rattle.language.specs.Reading.{byteIf, twoBytes, step as stepR, place as placeR, readE, readC};
 ghost use Rattle.prefix.specs.Skipped.{skipped, twice, behindE, behindC};
 
 // Where the next bytes start, or the number of a refusal.

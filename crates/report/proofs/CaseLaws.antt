@@ -13,14 +13,14 @@ use Rattle.text.specs.Text.{line}
 use Rattle.text.specs.Answers.{Written}
 use Rattle.text.proofs.Laws.{text-one}
 use Rattle.text.proofs.Writing.{length-line}
-use Rattle.rules.specs.Check.{Outcome}
-use Rattle.rules.specs.FileOf.{fileOf}
+use Rattle.language.specs.Check.{Outcome}
+use Rattle.language.specs.FileOf.{fileOf}
 use Rattle.rules.specs.Plans.{Plans, PlanOf}
 use Rattle.rules.specs.declared.plan.Plan.{Plan}
-use Rattle.rules.proofs.TextLaws.{accepted-text}
+use Rattle.language.proofs.TextLaws.{accepted-text}
 use Rattle.cases.proofs.OutlineLaws.{bound-is}
 use Rattle.cases.proofs.ValidLaws.{table-width}
-use Rattle.report.specs.Output.{caseFrame}
+use Rattle.language.specs.OutputOf.{caseFrame}
 use Rattle.report.specs.Lines.{Grown, Tabled, TablesLined, CaseLined}
 use Rattle.report.proofs.LineLaws.{grown-line, grown-more}
 

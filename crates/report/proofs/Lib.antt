@@ -1,9 +1,5 @@
--- The laws of the program's output.
+-- The laws of the functions that write the output, lowest first.
 pub mod LineLaws
 pub mod TableLaws
 pub mod CaseLaws
 pub mod OutputLaws
-pub mod ReadBack
-pub mod Program
-pub mod InputLaws
-pub mod Examples

@@ -13,7 +13,8 @@ use Rattle.text.specs.Text.{line, textOf}
 use Rattle.text.specs.Answers.{fits, behind, Written}
 use Rattle.text.proofs.Laws.{text-one, text-append}
 use Rattle.text.proofs.Writing.{length-line, behind-line, take-written, drop-written, length-written}
-use Rattle.report.specs.Output.{numberBytes}
+use Rattle.language.specs.OutputOf.{numberBytes}
+use Rattle.language.proofs.ReadBack.{length-bytes}
 use Rattle.report.specs.Lines.{Grown, CellsPut, TableLined}
 
 -- ---- lines
@@ -55,11 +56,6 @@ bytes-snoc : (xs : List ℤ) (z : ℤ) → numberBytes (xs ++ (z ∷ [])) ≡ nu
 unfolding numberBytes
 bytes-snoc [] z = refl
 bytes-snoc (x ∷ xs) z = ap (λ (l : List ℕ). highByte x ∷ lowByte x ∷ l) (bytes-snoc xs z)
-
-pub length-bytes : (xs : List ℤ) → length (numberBytes xs) ≡ 2 * length xs
-unfolding numberBytes
-length-bytes [] = refl
-length-bytes (x ∷ xs) = let e : length (numberBytes xs) ≡ 2 * length xs = length-bytes xs in omega arith
 
 pub cells-none : (cells : List ℤ) (first : ℕ) (frame : List ℕ) → CellsPut cells first 0 frame frame
 unfolding numberBytes

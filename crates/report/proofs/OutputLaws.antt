@@ -17,68 +17,20 @@ use Rattle.meaning.specs.Look.{Answer, After, answerIn, instIn, numberOf, seek,
 use Rattle.meaning.proofs.Numbering.{length-cells}
 use Rattle.text.specs.Answers.{Written}
 use Rattle.text.proofs.Writing.{length-line}
-use Rattle.rules.specs.Check.{Outcome}
-use Rattle.rules.specs.FileOf.{fileOf}
-use Rattle.rules.specs.Legal.{Legal}
-use Rattle.rules.proofs.TextLaws.{accepted-text}
-use Rattle.look.specs.Looks.{answerOf, lookOf}
+use Rattle.language.specs.Check.{Outcome}
+use Rattle.language.specs.FileOf.{fileOf}
+use Rattle.language.specs.Legal.{Legal}
+use Rattle.language.proofs.TextLaws.{accepted-text}
+use Rattle.look.specs.Looks.{answerOf}
+use Rattle.language.specs.LookOf.{lookOf}
 use Rattle.look.specs.declared.Answer.{Answer as Answered}
 use Rattle.look.specs.declared.Answer.the-variants.{Case, NoCase, Spent, Refused}
+use Rattle.language.proofs.WholeSearch.{first, shownAll, all-case, all-none, answered, whole-look}
 use Rattle.look.proofs.CodeLaws.{codes-few}
-use Rattle.look.proofs.LookLaws.{look-on, verdict-case, verdict-none}
-use Rattle.look.proofs.RealLooks.{look-of-text}
-use Rattle.report.specs.Output.{noCaseFrame, refusalFrame, answerFrames, searchedAll, outcomeFrames, outputOf}
+use Rattle.language.proofs.RealLooks.{look-of-text}
+use Rattle.language.specs.OutputOf.{noCaseFrame, refusalFrame, answerFrames, searchedAll, outcomeFrames, outputOf}
 use Rattle.report.specs.Lines.{outputRoom, Printed, Grown, CaseLined}
 use Rattle.report.proofs.LineLaws.{grown-line, grown-whole}
-
--- ---- a look at a file from 0 to the end
-
-module _ (F : File) where
-  abbrev pub first : ℕ
-  first = seek (candidate F) 0 (candidates F)
-
-  searched-first : searched F 0 (candidates F) [] [] ≡ verdict F (candidates F) first [] []
-  searched-first =
-      let n = candidates F in
-      let to : min (0 + n) n ≡ n = omega arith in
-      let span : n - 0 ≡ n = omega arith in
-      ap (λ end. verdict F end (seek (candidate F) 0 (end - 0)) [] []) to ∙ ap (λ i. verdict F n (seek (candidate F) 0 i) [] []) span
-
-  pub all-case : first < candidates F → searchedAll F ≡ Answer.case first
-  unfolding searchedAll
-  all-case h = ap answerIn (searched-first ∙ verdict-case F [] [] (candidates F) first h)
-
-  -- at the end of all candidates a search is not spent
-  at-end : cond (eqb (candidates F) (candidates F)) Answer.noCase (Answer.spent (candidates F)) ≡ Answer.noCase
-  at-end = rw (eq-eqb (candidates F) (candidates F) refl)
-
-  pub all-none : candidates F ≤ first → searchedAll F ≡ Answer.noCase
-  unfolding searchedAll
-  all-none h = ap answerIn (searched-first ∙ verdict-none F [] [] (candidates F) first h) ∙ at-end
-
-  -- the instance buffer after it
-  abbrev pub shownAll : List ℤ → List ℤ
-  shownAll inst = cond (ltb first (candidates F)) (shownIn F first inst) inst
-
-  -- the answer's number
-  answered : {P : Type 0} (x : Answer) → x ≡ searchedAll F → (numberOf x ≡ 0x80 → P) → (numberOf x ≡ 0x82 → P) → P
-  answered x e here none =
-      by-test (ltb first (candidates F)) (λ t. here (ap numberOf (e ∙ all-case (ltb-true _ _ t)))) (λ t. none (ap numberOf (e ∙ all-none (ltb-false _ _ t))))
-
-  pub whole-look : (count : ℕ) (work inst : List ℤ) → candidates F ≤ count → workSize ≤ length work → cellCount F ≤ length inst
-      → look F 0 count work inst ≡ After.after (searchedAll F) (zeros work) (shownAll inst)
-  whole-look count work inst many whole room =
-      let n = candidates F in
-      let from : 0 ≤ n = omega arith in
-      let to : n ≡ min (0 + count) n = omega arith in
-      let span : n - 0 ≡ n = omega arith in
-      let both : Answer → List ℤ → After = λ a i. After.after a (zeros work) i in
-      look-on F 0 count work inst n whole room from to ∙ ap (λ i. verdict F n (seek (candidate F) 0 i) work inst) span
-      ∙ by-test (ltb first n)
-      (λ t. let shows : shownIn F first inst ≡ shownAll inst = rw t in
-      verdict-case F work inst n first (ltb-true _ _ t) ∙ ap₂ both (sym (all-case (ltb-true _ _ t))) shows)
-      (λ t. let keeps : inst ≡ shownAll inst = rw t in
-      verdict-none F work inst n first (ltb-false _ _ t) ∙ ap₂ both (at-end ∙ sym (all-none (ltb-false _ _ t))) keeps)
 
 -- ---- a look at a text from 0 to the end
 

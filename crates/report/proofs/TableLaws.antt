@@ -14,9 +14,9 @@ use Rattle.meaning.specs.Candidates.{cellColumns, cutRows, cut}
 use Rattle.meaning.proofs.Elements.{all-at}
 use Rattle.meaning.proofs.Numbering.{length-cutRows, joined-cutRows}
 use Rattle.bounds.specs.Catalog.{widthAt, boundAt}
-use Rattle.rules.specs.Legal.{LegalTable, tableAt}
+use Rattle.language.specs.Legal.{LegalTable, tableAt}
 use Rattle.look.proofs.CodeLaws.{length-copies}
-use Rattle.report.specs.Output.{numberBytes, tableFrame, tableFrames}
+use Rattle.language.specs.OutputOf.{numberBytes, tableFrame, tableFrames}
 use Rattle.report.specs.Lines.{Grown, TableLined, Tabled, TablesLined}
 use Rattle.report.proofs.LineLaws.{cells-few, grown-more, grown-none}
 

@@ -1,4 +1,2 @@
--- What a reader must believe of the program's output.
-pub mod Output
-pub mod Told
+-- What the functions that write the output give.
 pub mod Lines

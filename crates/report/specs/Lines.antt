@@ -12,10 +12,10 @@ use Rattle.meaning.specs.Candidates.{cellCount, cut, cells}
 use Rattle.meaning.specs.Look.{Answer}
 use Rattle.text.specs.Text.{textOf}
 use Rattle.bounds.specs.Catalog.{widthAt, boundAt}
-use Rattle.rules.specs.Check.{Outcome}
-use Rattle.rules.specs.FileOf.{fileOf}
-use Rattle.rules.specs.Legal.{Legal, tableAt}
-use Rattle.report.specs.Output.{numberBytes, tableFrames, answerFrames, outputOf}
+use Rattle.language.specs.Check.{Outcome}
+use Rattle.language.specs.FileOf.{fileOf}
+use Rattle.language.specs.Legal.{Legal, tableAt}
+use Rattle.language.specs.OutputOf.{numberBytes, tableFrames, answerFrames, outputOf}
 
 -- room for any output: a line of 11 bytes for the case, and for each of 16 tables one of at most 135, with 32 cells
 abbrev pub outputRoom : ℕ

@@ -11,10 +11,10 @@ use lib.Seq.{drop-drop}
 use borrow.Author.Tests.{ltb-true, ltb-false, eqb-true, eqb-false}
 use Rattle.value.proofs.Decides.{by-test}
 use Rattle.value.proofs.Places.{from-byte}
-use Rattle.meaning.specs.Reading.{Read, Reader, andThen, _>>=_, byteIf}
-use Rattle.rules.specs.Draft.{Draft, Item}
-use Rattle.rules.specs.Frames.{ending, wholeFault}
-use Rattle.rules.specs.Check.{readChecked}
+use Rattle.language.specs.Reading.{Read, Reader, andThen, _>>=_, byteIf}
+use Rattle.language.specs.Draft.{Draft, Item}
+use Rattle.language.specs.Frames.{ending, wholeFault}
+use Rattle.language.specs.Check.{readChecked}
 use Rattle.rules.specs.Faults.{faultOf, faultAt, first}
 use Rattle.rules.specs.Catalogued.{checkedFault, bodyFault}
 use Rattle.rules.proofs.FieldLaws.{Sized, first-none, first-some, at-end, byte-missing, byte-wrong}

@@ -14,9 +14,9 @@ use Rattle.value.proofs.TwosComplement.{bytes-back}
 use Rattle.meaning.specs.Lists.{copies, joined}
 use Rattle.meaning.specs.Syntax.{Table}
 use Rattle.meaning.specs.Candidates.{product, cellColumns}
-use Rattle.meaning.proofs.PrefixForms.{constant-fits}
+use Rattle.language.proofs.PrefixForms.{constant-fits}
 use Rattle.meaning.proofs.Stacks.{by-lt}
-use Rattle.rules.specs.Written.{columnBytes, tableBytes}
+use Rattle.language.specs.Written.{columnBytes, tableBytes}
 use Rattle.rules.specs.Entries.{columnFrom}
 use Rattle.rules.specs.Packed.{tooMany, cappedProduct, columnsFrom, tableCells, cellsFrom, packedTables, Bits16, Counted}
 

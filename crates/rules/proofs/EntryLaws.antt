@@ -14,13 +14,13 @@ use Rattle.meaning.specs.Syntax.{Table, View, ForeignKey, Goal}
 use Rattle.meaning.specs.Bounds.{Schema, noSchema, schema, tableSchema, viewSchema}
 use Rattle.meaning.proofs.Stacks.{by-lt, stack-append}
 use Rattle.bounds.specs.Catalog.{widthAt, boundAt, maskAt, rangesFrom, schemaIn}
-use Rattle.rules.specs.Draft.{Draft, Item, empty, added, relationCount, schemasOf}
-use Rattle.rules.specs.Frames.{noTable}
-use Rattle.rules.specs.Written.{maskOf}
+use Rattle.language.specs.Draft.{Draft, Item, empty, added, relationCount, schemasOf}
+use Rattle.language.specs.Frames.{noTable}
+use Rattle.language.specs.Written.{maskOf}
 use Rattle.rules.specs.Catalogued.{Catalogued}
 use Rattle.rules.specs.Entries.{putShape, Outside}
 use Rattle.rules.proofs.CatalogLaws.{outside-ranges, shape-length, shape-other, put-width, put-bound, put-mask}
-use Rattle.rules.proofs.Turns.{count-schemas}
+use Rattle.language.proofs.Turns.{count-schemas}
 
 -- equal or not
 by-eq {ℓ} : (m n : ℕ) {P : Type ℓ} → (m ≡ n → P) → ((m ≡ n → ⊥) → P) → P

@@ -10,8 +10,8 @@ use lib.Seq.{drop-drop}
 use borrow.Author.Tests.{ne-eqb, ltb-true, ltb-false}
 use Rattle.value.proofs.Decides.{by-test}
 use Rattle.value.proofs.Places.{from-byte}
-use Rattle.meaning.specs.Reading.{Read, Reader, andThen, _>>=_, byteIf}
-use Rattle.rules.specs.Frames.{ending}
+use Rattle.language.specs.Reading.{Read, Reader, andThen, _>>=_, byteIf}
+use Rattle.language.specs.Frames.{ending}
 use Rattle.rules.specs.Faults.{faultOf, faultAt, first}
 
 -- ---- the first of two

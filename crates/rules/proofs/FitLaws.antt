@@ -10,14 +10,14 @@ use lib.ListN.{length, getD, List·getD-append}
 use borrow.Author.Tests.{ltb-true, ltb-false}
 use Rattle.value.proofs.Decides.{by-test}
 use Rattle.meaning.specs.Syntax.{View}
-use Rattle.meaning.specs.Reading.{Read, Reader, _>>=_, either, byteIf, readE, readC}
-use Rattle.meaning.proofs.Readers.{then-ok}
+use Rattle.language.specs.Reading.{Read, Reader, _>>=_, either, byteIf, readE, readC}
+use Rattle.language.proofs.Readers.{then-ok}
 use Rattle.meaning.proofs.Stacks.{length-snoc}
-use Rattle.rules.specs.Draft.{Draft, Item, empty, added, isTable, isView, width, inOrder, hasRoom}
-use Rattle.rules.specs.Frames.{times, field, ending, columnField, pairField, placeField, fromList, tableFrame, keyFrame, basicFrame, groupedFrame, setFrame, goalFrame, frame, wholeFault, noTable}
-use Rattle.rules.specs.Check.{Checked, readChecked, checkFrame}
+use Rattle.language.specs.Draft.{Draft, Item, empty, added, isTable, isView, width, inOrder, hasRoom}
+use Rattle.language.specs.Frames.{times, field, ending, columnField, pairField, placeField, fromList, tableFrame, keyFrame, basicFrame, groupedFrame, setFrame, goalFrame, frame, wholeFault, noTable}
+use Rattle.language.specs.Check.{Checked, readChecked, checkFrame}
 use Rattle.rules.specs.Layout.{KeysFit}
-use Rattle.rules.proofs.MaskLaws.{length-maskBits}
+use Rattle.language.proofs.MaskLaws.{length-maskBits}
 
 -- ---- what a reader reads has a property
 

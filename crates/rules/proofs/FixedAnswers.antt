@@ -5,9 +5,9 @@ use mathlib.Core.Bool.{Bool}
 use mathlib.Core.List.{List}
 use Prim.Native.Nat.{ℕ, _+_, _*_, _^_, min}
 use lib.ListN.{getD}
-use Rattle.meaning.specs.Reading.{byteIf}
+use Rattle.language.specs.Reading.{byteIf}
 use Rattle.bounds.specs.Catalog.{widthAt, boundAt, maskAt}
-use Rattle.rules.specs.Frames.{ending}
+use Rattle.language.specs.Frames.{ending}
 use Rattle.rules.specs.Faults.{faultAt, first, under, within, fromUnder}
 use Rattle.rules.specs.Layout.{columnsFault, pairsFault, pairing, setRules, TableFault, KeyFault, SetFault, GoalFault}
 use Rattle.rules.proofs.FixedLaws.{table-law, key-law, set-law, goal-law}

@@ -15,16 +15,16 @@ use Rattle.value.specs.Integer.{bytesZ}
 use Rattle.value.proofs.Decides.{by-test, and-parts}
 use Rattle.value.proofs.Places.{first-behind}
 use Rattle.meaning.specs.Syntax.{Pair}
-use Rattle.meaning.specs.Reading.{Read, done, _>>=_, byteIf}
+use Rattle.language.specs.Reading.{Read, done, _>>=_, byteIf}
 use Rattle.meaning.specs.Bounds.{schema}
 use Rattle.bounds.specs.Catalog.{widthAt, boundAt, maskAt}
-use Rattle.rules.specs.Draft.{Draft, Item, width, relationCount, schemasOf}
-use Rattle.rules.specs.Frames.{ending, times, columnField, pairField, tableFrame, keyFrame, setFrame, goalFrame, wholeFault, noTable}
+use Rattle.language.specs.Draft.{Draft, Item, width, relationCount, schemasOf}
+use Rattle.language.specs.Frames.{ending, times, columnField, pairField, tableFrame, keyFrame, setFrame, goalFrame, wholeFault, noTable}
 use Rattle.rules.specs.Faults.{faultOf, faultAt, first, under, within, fromUnder}
 use Rattle.rules.specs.Catalogued.{Catalogued, bodyFault}
 use Rattle.rules.specs.Layout.{columnsFault, pairsFault, pairing, setView, setBound, setRules, KeysFit}
 use Rattle.rules.proofs.FieldLaws.{byte-then}
-use Rattle.rules.proofs.Turns.{width-table}
+use Rattle.language.proofs.Turns.{width-table}
 use Rattle.rules.proofs.CatalogLaws.{length-ranges}
 use Rattle.rules.proofs.SizedLaws.{sized-times, sized-column, sized-pair}
 use Rattle.rules.proofs.PairLaws.{parents-read, pairing-exact}

@@ -11,11 +11,11 @@ use lib.Seq.{getD-drop}
 use borrow.Author.Tests.{ltb-true, leb-true, eqb-true}
 use Rattle.value.proofs.Decides.{by-test, and-parts}
 use Rattle.meaning.specs.Syntax.{View, Goal}
-use Rattle.meaning.specs.Reading.{Read, Reader, _>>=_, byteIf}
+use Rattle.language.specs.Reading.{Read, Reader, _>>=_, byteIf}
 use Rattle.meaning.specs.Bounds.{viewSchema, sameWidth, aggregatesFit, bounded, rangesFit}
-use Rattle.rules.specs.Draft.{Draft, Item, added, relationCount, schemasOf, isView, stageOf, inOrder, hasRoom}
-use Rattle.rules.specs.Frames.{frame, wholeFault, ending, field, setFrame, goalFrame, basicFrame, groupedFrame}
-use Rattle.rules.specs.Check.{wholeChecked, readChecked}
+use Rattle.language.specs.Draft.{Draft, Item, added, relationCount, schemasOf, isView, stageOf, inOrder, hasRoom}
+use Rattle.language.specs.Frames.{frame, wholeFault, ending, field, setFrame, goalFrame, basicFrame, groupedFrame}
+use Rattle.language.specs.Check.{wholeChecked, readChecked}
 use Rattle.rules.specs.Faults.{faultAt, faultOf}
 use Rattle.rules.specs.Catalogued.{Catalogued, checkedFault, bodyFault}
 use Rattle.rules.specs.Layout.{setView, TableFault, KeyFault, SetFault, GoalFault}
@@ -26,12 +26,12 @@ use Rattle.rules.specs.Standing.{Stands, Held, Turned, withTable, withKe
 use Rattle.rules.specs.declared.state.State.{State}
 use Rattle.rules.specs.declared.view_rules.Ruled.{Ruled}
 use Rattle.rules.proofs.EntryLaws.{key-entered, goal-entered}
-use Rattle.rules.proofs.FairReaders.{Good, Nil}
-use Rattle.rules.proofs.FairFrames.{Well, fair-frame}
+use Rattle.language.proofs.FairReaders.{Good, Nil}
+use Rattle.language.proofs.FairFrames.{Well, fair-frame}
 use Rattle.rules.proofs.StandingLaws.{stands-table, stands-key, stands-view, stands-goal}
 use Rattle.rules.proofs.StepLaws.{stepAt, Found, turned-refused}
 use Rattle.rules.proofs.TableLaws.{byte-read, ending-read}
-use Rattle.rules.proofs.Turns.{itemStage, Turn, turn, stage-known}
+use Rattle.language.proofs.Turns.{itemStage, Turn, turn, stage-known}
 
 -- ---- an item that is read
 

@@ -11,10 +11,10 @@ use lib.Seq.{getD-drop, drop-drop}
 use Rattle.value.specs.Bag.{tick, countIf}
 use Rattle.value.proofs.Decides.{by-test}
 use Rattle.meaning.specs.Syntax.{Pair}
-use Rattle.meaning.specs.Reading.{Read, done, refuse, _>>=_, byteIf, either}
-use Rattle.meaning.proofs.Readers.{then-ok}
-use Rattle.rules.specs.Frames.{times, pairField, exactlyKey}
-use Rattle.rules.specs.Written.{maskOf}
+use Rattle.language.specs.Reading.{Read, done, refuse, _>>=_, byteIf, either}
+use Rattle.language.proofs.Readers.{then-ok}
+use Rattle.language.specs.Frames.{times, pairField, exactlyKey}
+use Rattle.language.specs.Written.{maskOf}
 use Rattle.rules.specs.Faults.{first, under}
 use Rattle.rules.specs.Layout.{parentCount, columnPairing, pairing}
 use Rattle.rules.proofs.FieldLaws.{first-none, first-some}

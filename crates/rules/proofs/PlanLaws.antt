@@ -27,27 +27,27 @@ use Rattle.meaning.specs.Candidates.{candidates}
 use Rattle.value.proofs.Order.{≤-trans}
 use Rattle.value.proofs.Values.{all-map}
 use Rattle.value.proofs.Places.{getD-all}
-use Rattle.meaning.proofs.Readers.{Byte}
+use Rattle.language.proofs.Readers.{Byte}
 use Rattle.bounds.specs.Catalog.{widthAt}
-use Rattle.rules.specs.Draft.{Draft, Item, empty, added, fileAt, relationCount, stage}
-use Rattle.rules.specs.Check.{Outcome, Checked, candidateLimit, checkFrame, finished, onward, checkFrames}
-use Rattle.rules.specs.FileOf.{outcomeOf, fileOf}
-use Rattle.rules.specs.Legal.{LegalColumn, LegalTable, LegalKey, LegalView}
-use Rattle.rules.specs.Written.{tableBytes, keyBytes, viewBytes, goalBytes, fileFrames}
+use Rattle.language.specs.Draft.{Draft, Item, empty, added, fileAt, relationCount, stage}
+use Rattle.language.specs.Check.{Outcome, Checked, candidateLimit, checkFrame, finished, onward, checkFrames}
+use Rattle.language.specs.FileOf.{outcomeOf, fileOf}
+use Rattle.language.specs.Legal.{LegalColumn, LegalTable, LegalKey, LegalView}
+use Rattle.language.specs.Written.{tableBytes, keyBytes, viewBytes, goalBytes, fileFrames}
 use Rattle.rules.specs.Packed.{tooMany, packedTables, Bits16, Counted}
 use Rattle.rules.specs.Standing.{Held, startState}
 use Rattle.rules.specs.Plans.{Reached, goneOn, reach, concluded, WalkedTo, Walks, frameOf, Starts, Plans}
 use Rattle.rules.specs.declared.plan.Plan.{Plan}
 use Rattle.rules.specs.declared.plan.Walked.{Walked}
-use Rattle.rules.proofs.Accepted.{LegalDraft, lawful-obeys, draftFrames, goalFrames, frames-added}
+use Rattle.language.proofs.Accepted.{LegalDraft, lawful-obeys, draftFrames, goalFrames, frames-added}
 use Rattle.rules.proofs.CatalogLaws.{length-ranges}
 use Rattle.rules.proofs.EntryLaws.{none-entered}
 use Rattle.rules.proofs.FitLaws.{fits-empty}
-use Rattle.rules.proofs.Folds.{kept-empty, kept-step}
-use Rattle.rules.proofs.SoundFrames.{regroup}
+use Rattle.language.proofs.Folds.{kept-empty, kept-step}
+use Rattle.language.proofs.SoundFrames.{regroup}
 use Rattle.rules.proofs.StandingLaws.{stands-empty}
-use Rattle.rules.proofs.Steps.{Taken, Looked, looked, step-bytes}
-use Rattle.rules.proofs.Turns.{draft, stage-views}
+use Rattle.language.proofs.Steps.{Taken, Looked, looked, step-bytes}
+use Rattle.language.proofs.Turns.{draft, stage-views}
 use Rattle.rules.proofs.WalkLaws.{starts-back}
 
 -- ---- frames in turn

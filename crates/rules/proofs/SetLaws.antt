@@ -14,7 +14,7 @@ use Rattle.meaning.specs.Syntax.{View}
 use Rattle.meaning.specs.Bounds.{Schema, schema, hulls}
 use Rattle.meaning.proofs.Sizes.{length-hulls}
 use Rattle.bounds.specs.Catalog.{widthAt, boundAt, rangesFrom, rangesIn}
-use Rattle.rules.specs.Draft.{Draft, relationCount, schemasOf}
+use Rattle.language.specs.Draft.{Draft, relationCount, schemasOf}
 use Rattle.rules.specs.Catalogued.{Catalogued}
 use Rattle.rules.specs.Entries.{putShape, putRanges, hullAt, HullsPut, SetEntered, Outside}
 use Rattle.rules.proofs.CatalogLaws.{none, length-ranges, puts-outside, puts-ranges}

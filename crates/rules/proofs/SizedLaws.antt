@@ -8,9 +8,9 @@ use lib.ListN.{drop}
 use lib.Seq.{drop-drop}
 use lib.Signed.{leZ}
 use Rattle.value.specs.Integer.{bytesZ}
-use Rattle.meaning.specs.Reading.{Read, Reader, done, refuse, andThen, _>>=_, byte, byteIf, either}
-use Rattle.meaning.proofs.Readers.{then-ok}
-use Rattle.rules.specs.Frames.{times, columnField, pairField}
+use Rattle.language.specs.Reading.{Read, Reader, done, refuse, andThen, _>>=_, byte, byteIf, either}
+use Rattle.language.proofs.Readers.{then-ok}
+use Rattle.language.specs.Frames.{times, columnField, pairField}
 use Rattle.rules.specs.Faults.{faultOf, faultAt, first, under}
 use Rattle.rules.proofs.FieldLaws.{Sized, sized-then, first-none, first-some}
 

@@ -10,12 +10,12 @@ use borrow.Author.Tests.{leb-true, leb-false}
 use Rattle.value.proofs.Decides.{by-test}
 use Rattle.meaning.specs.Syntax.{Table, ForeignKey, View, Goal}
 use Rattle.meaning.proofs.Stacks.{length-snoc}
-use Rattle.rules.specs.Draft.{Draft, Item, empty, added, isNil, stage, stageOf, inOrder, hasRoom}
-use Rattle.rules.specs.Check.{Checked, checkFrame, readChecked}
-use Rattle.rules.specs.Frames.{frame}
+use Rattle.language.specs.Draft.{Draft, Item, empty, added, isNil, stage, stageOf, inOrder, hasRoom}
+use Rattle.language.specs.Check.{Checked, checkFrame, readChecked}
+use Rattle.language.specs.Frames.{frame}
 use Rattle.rules.specs.Standing.{Stands, startState, roomFor, turnFault, withTable, withKey, withView, withGoal}
 use Rattle.rules.specs.declared.state.State.{State}
-use Rattle.rules.proofs.Turns.{draft, by-kind, TableTurn, KeyTurn, ViewTurn}
+use Rattle.language.proofs.Turns.{draft, by-kind, TableTurn, KeyTurn, ViewTurn}
 
 -- ---- the stage
 

@@ -9,18 +9,18 @@ use Prim.Native.Nat.{ℕ, _≤_, _<_}
 use native.Mathlib.Omega.{arith}
 use lib.IntN.{ℤ}
 use lib.ListN.{length, getD, drop}
-use Rattle.meaning.specs.Reading.{Read}
-use Rattle.rules.specs.Draft.{Draft, Item, added, stageOf, inOrder, hasRoom}
-use Rattle.rules.specs.Frames.{frame, wholeFault}
-use Rattle.rules.specs.Check.{Checked, checkFrame, readChecked}
+use Rattle.language.specs.Reading.{Read}
+use Rattle.language.specs.Draft.{Draft, Item, added, stageOf, inOrder, hasRoom}
+use Rattle.language.specs.Frames.{frame, wholeFault}
+use Rattle.language.specs.Check.{Checked, checkFrame, readChecked}
 use Rattle.rules.specs.Catalogued.{Catalogued, checkedFault, bodyFault}
 use Rattle.rules.specs.Standing.{Stands, Held, Turned, Stepped, turnFault}
 use Rattle.rules.specs.declared.state.State.{State}
 use Rattle.rules.specs.declared.step.Step.{Step}
 use Rattle.rules.proofs.FitLaws.{fits-next}
 use Rattle.rules.proofs.StandingLaws.{turn-passed, turn-refused}
-use Rattle.rules.proofs.Steps.{Taken, Looked, looked, whole-zero}
-use Rattle.rules.proofs.Turns.{by-kind, stage-known}
+use Rattle.language.proofs.Steps.{Taken, Looked, looked, whole-zero}
+use Rattle.language.proofs.Turns.{by-kind, stage-known}
 
 abbrev pub stepAt : ℕ → State → Step
 stepAt n s = record { fault = n; state = s }

@@ -16,16 +16,16 @@ use Rattle.value.proofs.Decides.{by-test, and-parts}
 use Rattle.range.specs.declared.Range.{Range}
 use Rattle.range.specs.Ranges.{columnOf}
 use Rattle.meaning.specs.Syntax.{Table}
-use Rattle.meaning.specs.Reading.{Read, Reader, _>>=_, byteIf, done}
-use Rattle.meaning.proofs.Readers.{then-ok}
+use Rattle.language.specs.Reading.{Read, Reader, _>>=_, byteIf, done}
+use Rattle.language.proofs.Readers.{then-ok}
 use Rattle.bounds.specs.Catalog.{rangesFrom}
-use Rattle.rules.specs.Draft.{Item}
-use Rattle.rules.specs.Frames.{times, field, ending, maskBits, columnField, tableFrame}
-use Rattle.rules.specs.Written.{maskOf}
+use Rattle.language.specs.Draft.{Item}
+use Rattle.language.specs.Frames.{times, field, ending, maskBits, columnField, tableFrame}
+use Rattle.language.specs.Written.{maskOf}
 use Rattle.rules.specs.Entries.{putShape, putRanges, columnFrom, columnIn, TableEntered}
 use Rattle.rules.proofs.CatalogLaws.{none, puts-outside, puts-ranges}
 use Rattle.rules.proofs.EntryLaws.{table-entered}
-use Rattle.rules.proofs.MaskLaws.{mask-back}
+use Rattle.language.proofs.MaskLaws.{mask-back}
 
 -- ---- a byte that was read
 

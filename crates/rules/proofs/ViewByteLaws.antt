@@ -15,7 +15,7 @@ use lib.ListN.{length, getD, drop, take}
 use borrow.Author.Tests.{leb-true, leb-false}
 use Rattle.value.proofs.Decides.{by-test, and-parts}
 use Rattle.meaning.specs.Syntax.{Expr}
-use Rattle.meaning.specs.Reading.{Read, Reader, done, andThen, _>>=_, byteIf, place, readE, readC}
+use Rattle.language.specs.Reading.{Read, Reader, done, andThen, _>>=_, byteIf, place, readE, readC}
 use Rattle.meaning.proofs.Elements.{all-given, map-same}
 use Rattle.prefix.specs.Skipped.{skipOf, skipped}
 use Rattle.prefix.specs.declared.Skip.{Skip}
@@ -23,8 +23,8 @@ use Rattle.prefix.specs.declared.Skip.the-variants.{Next, Refused}
 use Rattle.prefix.proofs.Ends.{Ends, Field, ends-done, ends-more, ends-bind, field-if, field-bind, fieldE, fieldC}
 use Rattle.prefix.proofs.Skips.{Landed, lands, field-lands, then-more, then-stop, next-is, level-done, level-bind, level-at}
 use Rattle.bounds.specs.Catalog.{widthAt}
-use Rattle.rules.specs.Draft.{Draft, width}
-use Rattle.rules.specs.Frames.{times, ending, placeField}
+use Rattle.language.specs.Draft.{Draft, width}
+use Rattle.language.specs.Frames.{times, ending, placeField}
 use Rattle.rules.specs.Faults.{faultOf, faultAt, first, under, within}
 use Rattle.rules.specs.Catalogued.{Catalogued}
 use Rattle.rules.specs.ViewFaults.{fromsUnder, selectEnd, conditionSelect, whereGroups, bytesAt}

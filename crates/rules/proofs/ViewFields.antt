@@ -14,11 +14,11 @@ use Rattle.value.proofs.Places.{from-byte}
 use Rattle.value.proofs.Values.{all-map}
 use Rattle.meaning.specs.Lists.{all}
 use Rattle.meaning.specs.Syntax.{Expr, Cond, Place, View}
-use Rattle.meaning.specs.Reading.{Read, Reader, done, andThen, _>>=_, byteIf, readE, readC}
-use Rattle.meaning.proofs.Readers.{then-ok}
+use Rattle.language.specs.Reading.{Read, Reader, done, andThen, _>>=_, byteIf, readE, readC}
+use Rattle.language.proofs.Readers.{then-ok}
 use Rattle.bounds.specs.Walk.{placesFrom}
-use Rattle.rules.specs.Draft.{Draft, Item, relationCount, width}
-use Rattle.rules.specs.Frames.{times, field, ending, fromList, placeField, groupedFrame}
+use Rattle.language.specs.Draft.{Draft, Item, relationCount, width}
+use Rattle.language.specs.Frames.{times, field, ending, fromList, placeField, groupedFrame}
 use Rattle.rules.proofs.FieldLaws.{at-end}
 
 -- ---- lists

@@ -9,10 +9,10 @@ use native.Mathlib.Omega.{arith}
 use lib.IntN.{ℤ}
 use lib.ListN.{length, getD, take, length-take}
 use Rattle.meaning.specs.Syntax.{View}
-use Rattle.meaning.specs.Reading.{Reader, _>>=_, byteIf, readE, readC}
+use Rattle.language.specs.Reading.{Reader, _>>=_, byteIf, readE, readC}
 use Rattle.bounds.specs.Catalog.{widthAt}
-use Rattle.rules.specs.Draft.{Draft, Item, relationCount, width}
-use Rattle.rules.specs.Frames.{times, field, ending, placeField, basicFrame, groupedFrame}
+use Rattle.language.specs.Draft.{Draft, Item, relationCount, width}
+use Rattle.language.specs.Frames.{times, field, ending, placeField, basicFrame, groupedFrame}
 use Rattle.rules.specs.Faults.{faultAt, first, within}
 use Rattle.rules.specs.Catalogued.{Catalogued}
 use Rattle.rules.specs.ViewFaults.{fromsUnder, selectEnd, conditionSelect, whereGroups, bytesAt, widthsAt, BasicBytes, GroupedBytes}

@@ -20,18 +20,18 @@ use Rattle.range.specs.declared.Ranged.{Ranged}
 use Rattle.range.specs.declared.Ranged.the-variants.{Within, Beyond}
 use Rattle.meaning.specs.Lists.{all}
 use Rattle.meaning.specs.Syntax.{Expr, Cond, Place, View}
-use Rattle.meaning.specs.Reading.{Read, Reader, andThen, readE, readC}
+use Rattle.language.specs.Reading.{Read, Reader, andThen, readE, readC}
 use Rattle.meaning.specs.Bounds.{Schema, schema, viewSchema, itemRanges, productBound, range, withinE, withinC, allowedE, allowedC, anyColumn, groupingColumn}
 use Rattle.meaning.proofs.Elements.{all-given, map-same}
-use Rattle.meaning.proofs.Readers.{then-ok}
+use Rattle.language.proofs.Readers.{then-ok}
 use Rattle.bounds.specs.Catalog.{widthAt, boundAt, rangesFrom, rangesIn, itemsIn}
 use Rattle.bounds.specs.Walk.{placesFrom, columnsOf, widthsIn, rangedE, isWithin, SizesE, TestsC}
 use Rattle.bounds.specs.declared.Rule.{Rule}
 use Rattle.bounds.specs.declared.Sized.{Sized}
 use Rattle.bounds.specs.declared.Tested.{Tested}
 use Rattle.bounds.proofs.Parts.{ranged-is}
-use Rattle.rules.specs.Draft.{Draft, Item, added, relationCount, schemasOf, width}
-use Rattle.rules.specs.Frames.{times, field, fromList, placeField, basicFrame, groupedFrame, wholeFault}
+use Rattle.language.specs.Draft.{Draft, Item, added, relationCount, schemasOf, width}
+use Rattle.language.specs.Frames.{times, field, fromList, placeField, basicFrame, groupedFrame, wholeFault}
 use Rattle.rules.specs.Catalogued.{Catalogued}
 use Rattle.rules.specs.Entries.{putRange, putShape, Outside}
 use Rattle.rules.specs.ViewRules.{factorAt, productOf, Product, putRanged, viewFault, Room, Selects, Answer, Tail, Rules}

@@ -14,14 +14,14 @@ use lib.Seq.{drop-cons, drop-drop, take-at, drop-at, getD-set-same, getD-set-oth
 use borrow.Author.Tests.{eqb-true, eqb-false}
 use Rattle.value.proofs.Decides.{by-test}
 use Rattle.text.specs.Answers.{pack}
-use Rattle.rules.specs.Draft.{Draft, empty}
-use Rattle.rules.specs.Check.{Checked, checkFrame}
+use Rattle.language.specs.Draft.{Draft, empty}
+use Rattle.language.specs.Check.{Checked, checkFrame}
 use Rattle.rules.specs.Catalogued.{checkedFault}
 use Rattle.rules.specs.Standing.{Held, Stepped, startState}
 use Rattle.rules.specs.Plans.{Reached, goneOn, reach, WalkedTo, startFrom, frameOf, Starts}
 use Rattle.rules.specs.declared.state.State.{State}
 use Rattle.rules.specs.declared.step.Step.{Step}
-use Rattle.rules.proofs.Steps.{Looked, looked}
+use Rattle.language.proofs.Steps.{Looked, looked}
 
 no : {A : Type 0} → _≡_ {A = ℕ} 0 1 → A
 no z = absurd (omega arith)

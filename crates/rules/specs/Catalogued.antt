@@ -5,13 +5,13 @@ use mathlib.Core.List.{List}
 use Prim.Native.Nat.{ℕ, _<_, _≤_}
 use lib.IntN.{ℤ}
 use lib.ListN.{length, getD, drop}
-use Rattle.meaning.specs.Reading.{Reader}
+use Rattle.language.specs.Reading.{Reader}
 use Rattle.meaning.specs.Bounds.{schema}
 use Rattle.bounds.specs.Catalog.{schemaIn, widthAt, maskAt}
-use Rattle.rules.specs.Draft.{Draft, Item, schemasOf}
-use Rattle.rules.specs.Frames.{noTable}
-use Rattle.rules.specs.Check.{Checked, readChecked}
-use Rattle.rules.specs.Written.{maskOf}
+use Rattle.language.specs.Draft.{Draft, Item, schemasOf}
+use Rattle.language.specs.Frames.{noTable}
+use Rattle.language.specs.Check.{Checked, readChecked}
+use Rattle.language.specs.Written.{maskOf}
 
 pub record Catalogued (d : Draft) (shape : List ℕ) (ends : List ℤ) : Type 0 where
   pub shape-size : length shape ≡ 64

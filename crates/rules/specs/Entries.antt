@@ -9,11 +9,11 @@ use Rattle.value.specs.Value.{Column}
 use Rattle.range.specs.declared.Range.{Range}
 use Rattle.range.specs.Ranges.{constantOf, columnOf, hullOf}
 use Rattle.meaning.specs.Syntax.{Table, View}
-use Rattle.meaning.specs.Reading.{Read}
+use Rattle.language.specs.Reading.{Read}
 use Rattle.meaning.specs.Bounds.{viewSchema}
 use Rattle.bounds.specs.Catalog.{widthAt, rangesIn}
-use Rattle.rules.specs.Draft.{Draft, Item, added, relationCount, schemasOf}
-use Rattle.rules.specs.Frames.{tableFrame}
+use Rattle.language.specs.Draft.{Draft, Item, added, relationCount, schemasOf}
+use Rattle.language.specs.Frames.{tableFrame}
 use Rattle.rules.specs.Catalogued.{Catalogued}
 
 -- ---- the arrays after a store; a place past the end is left out

@@ -5,7 +5,7 @@ use mathlib.Core.List.{List}
 use Prim.Native.Nat.{ℕ}
 use lib.Dec.{eqb, ltb, leb}
 use lib.ListN.{drop}
-use Rattle.meaning.specs.Reading.{Read, Reader}
+use Rattle.language.specs.Reading.{Read, Reader}
 
 abbrev pub faultOf : {A : Type 0} → Read A → ℕ
 faultOf (Read.ok a rest) = 0

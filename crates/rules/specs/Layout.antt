@@ -9,8 +9,8 @@ use lib.IntN.{ℤ}
 use lib.ListN.{length, getD}
 use Rattle.value.specs.Bag.{tick}
 use Rattle.meaning.specs.Syntax.{View}
-use Rattle.rules.specs.Draft.{Draft, relationCount}
-use Rattle.rules.specs.Frames.{times, columnField, pairField, tableFrame, keyFrame, setFrame, goalFrame, noTable}
+use Rattle.language.specs.Draft.{Draft, relationCount}
+use Rattle.language.specs.Frames.{times, columnField, pairField, tableFrame, keyFrame, setFrame, goalFrame, noTable}
 use Rattle.rules.specs.Faults.{faultAt, first}
 use Rattle.rules.specs.Catalogued.{Catalogued, bodyFault}
 

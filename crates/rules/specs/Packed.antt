@@ -11,8 +11,8 @@ use Rattle.value.specs.Value.{Column, size}
 use Rattle.meaning.specs.Lists.{copies}
 use Rattle.meaning.specs.Syntax.{Table}
 use Rattle.meaning.specs.Candidates.{product, cellColumns}
-use Rattle.rules.specs.Check.{candidateLimit}
-use Rattle.rules.specs.Written.{tableBytes}
+use Rattle.language.specs.Check.{candidateLimit}
+use Rattle.language.specs.Written.{tableBytes}
 use Rattle.rules.specs.Entries.{columnFrom}
 
 -- the first number that is too large stands for all of them

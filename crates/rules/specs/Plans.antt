@@ -11,10 +11,10 @@ use Rattle.meaning.specs.Syntax.{File}
 use Rattle.meaning.specs.Bounds.{schema, schemas}
 use Rattle.meaning.specs.Candidates.{candidates}
 use Rattle.bounds.specs.Catalog.{widthAt, boundAt, maskAt}
-use Rattle.rules.specs.Draft.{Draft, empty}
-use Rattle.rules.specs.Check.{Outcome, Checked, checkFrame, finished}
-use Rattle.rules.specs.Legal.{tableAt}
-use Rattle.rules.specs.Written.{maskOf, fileFrames}
+use Rattle.language.specs.Draft.{Draft, empty}
+use Rattle.language.specs.Check.{Outcome, Checked, checkFrame, finished}
+use Rattle.language.specs.Legal.{tableAt}
+use Rattle.language.specs.Written.{maskOf, fileFrames}
 use Rattle.rules.specs.Standing.{Held, startState}
 use Rattle.rules.specs.declared.plan.Plan.{Plan}
 use Rattle.rules.specs.declared.plan.Walked.{Walked}

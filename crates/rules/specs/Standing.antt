@@ -8,10 +8,10 @@ use lib.Dec.{ltb, leb, eqb}
 use lib.IntN.{ℤ}
 use lib.ListN.{length, drop}
 use Rattle.meaning.specs.Syntax.{Goal}
-use Rattle.meaning.specs.Reading.{Read}
-use Rattle.rules.specs.Draft.{Draft, Item, added, relationCount, stage, stageOf, inOrder, hasRoom}
-use Rattle.rules.specs.Frames.{frame, wholeFault}
-use Rattle.rules.specs.Check.{Checked, checkFrame}
+use Rattle.language.specs.Reading.{Read}
+use Rattle.language.specs.Draft.{Draft, Item, added, relationCount, stage, stageOf, inOrder, hasRoom}
+use Rattle.language.specs.Frames.{frame, wholeFault}
+use Rattle.language.specs.Check.{Checked, checkFrame}
 use Rattle.rules.specs.Catalogued.{Catalogued, checkedFault, bodyFault}
 use Rattle.rules.specs.Layout.{KeysFit}
 use Rattle.rules.specs.declared.state.State.{State}

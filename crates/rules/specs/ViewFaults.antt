@@ -5,10 +5,10 @@ use Prim.Native.Nat.{ℕ, zero, suc, _+_}
 use lib.IntN.{ℤ}
 use lib.ListN.{getD}
 use Rattle.meaning.specs.Syntax.{Expr}
-use Rattle.meaning.specs.Reading.{Reader, _>>=_, byteIf, readE, readC}
+use Rattle.language.specs.Reading.{Reader, _>>=_, byteIf, readE, readC}
 use Rattle.bounds.specs.Catalog.{widthAt}
-use Rattle.rules.specs.Draft.{Draft, relationCount}
-use Rattle.rules.specs.Frames.{times, field, ending, placeField, basicFrame, groupedFrame}
+use Rattle.language.specs.Draft.{Draft, relationCount}
+use Rattle.language.specs.Frames.{times, field, ending, placeField, basicFrame, groupedFrame}
 use Rattle.rules.specs.Faults.{faultAt, under}
 use Rattle.rules.specs.Catalogued.{Catalogued}
 

@@ -13,14 +13,14 @@ use Rattle.range.specs.declared.Ranged.{Ranged}
 use Rattle.range.specs.declared.Ranged.the-variants.{Within, Beyond}
 use Rattle.meaning.specs.Lists.{all}
 use Rattle.meaning.specs.Syntax.{Expr, View}
-use Rattle.meaning.specs.Reading.{Read, Reader, readE}
+use Rattle.language.specs.Reading.{Read, Reader, readE}
 use Rattle.meaning.specs.Bounds.{range, withinE, allowedE}
 use Rattle.bounds.specs.Catalog.{widthAt, boundAt, rangesFrom, itemsIn}
 use Rattle.bounds.specs.Walk.{columnsOf, widthsIn}
 use Rattle.bounds.specs.declared.Rule.{Rule}
 use Rattle.bounds.specs.declared.Tested.{Tested}
-use Rattle.rules.specs.Draft.{Draft, Item, added, relationCount}
-use Rattle.rules.specs.Frames.{times, wholeFault}
+use Rattle.language.specs.Draft.{Draft, Item, added, relationCount}
+use Rattle.language.specs.Frames.{times, wholeFault}
 use Rattle.rules.specs.Catalogued.{Catalogued}
 use Rattle.rules.specs.Entries.{putRange, putShape, Outside}
 use Rattle.rules.specs.declared.view_rules.Ruled.{Ruled}

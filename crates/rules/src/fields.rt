@@ -1,8 +1,8 @@
 // The fields of a frame: the fault of each, or 0.
 ghost use mathlib.Core.Path.{_≡_};
 ghost use lib.ListN.{getD};
-ghost use Rattle.meaning.specs.Reading.{byteIf};
-ghost use Rattle.rules.specs.Frames.{ending};
+ghost use Rattle.language.specs.Reading.{byteIf};
+ghost use Rattle.language.specs.Frames.{ending};
 ghost use Rattle.rules.specs.Faults.{first, faultAt, under, within, fromUnder};
 
 // The first fault of two; 0 is no fault.

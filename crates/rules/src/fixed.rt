@@ -3,7 +3,7 @@ ghost use mathlib.Core.Path.{_≡_};
 ghost use Prim.Native.Nat.{_*_, _+_, _^_, _<_, min};
 ghost use lib.ListN.{getD};
 ghost use Rattle.value.specs.Integer.{bytesZ};
-ghost use Rattle.rules.specs.Frames.{columnField, pairField};
+ghost use Rattle.language.specs.Frames.{columnField, pairField};
 ghost use Rattle.rules.specs.Faults.{faultAt};
 ghost use Rattle.rules.specs.Layout.{columnsFault, pairsFault, parentCount, columnPairing, pairing, setBound, setRules, TableFault, KeyFault, SetFault, GoalFault};
 use super::fields;

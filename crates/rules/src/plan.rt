@@ -8,7 +8,7 @@ use text;
 ghost use mathlib.Core.Path.{_≡_};
 ghost use Prim.Native.Nat.{_≤_};
 ghost use lib.ListN.{length};
-ghost use Rattle.rules.specs.FileOf.{fileOf};
+ghost use Rattle.language.specs.FileOf.{fileOf};
 ghost use Rattle.rules.specs.Plans.{Walks, startFrom, frameOf, Starts, Plans};
 
 // Number 0: the plan of a file. Any other: a refusal with its line.

@@ -1,6 +1,6 @@
 // What the checker has counted so far, the stage of the order, and the goal.
 ghost use mathlib.Core.Path.{_≡_};
-ghost use Rattle.rules.specs.Draft.{stageOf};
+ghost use Rattle.language.specs.Draft.{stageOf};
 ghost use Rattle.rules.specs.Standing.{startState, roomFor, turnFault, more, withTable, withKey, withView, withGoal};
 
 // The stages of the order; behind the goal no frame has one.

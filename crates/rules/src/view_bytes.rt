@@ -4,10 +4,10 @@ use prefix::Skip;
 ghost use mathlib.Core.Path.{_≡_};
 ghost use Prim.Native.Nat.{_≤_};
 ghost use lib.ListN.{length, getD};
-ghost use Rattle.meaning.specs.Reading.{byteIf, readE};
+ghost use Rattle.language.specs.Reading.{byteIf, readE};
 ghost use Rattle.prefix.specs.Skipped.{skipped};
 ghost use Rattle.bounds.specs.Catalog.{widthAt};
-ghost use Rattle.rules.specs.Frames.{times, placeField};
+ghost use Rattle.language.specs.Frames.{times, placeField};
 ghost use Rattle.rules.specs.Faults.{faultAt, under};
 ghost use Rattle.rules.specs.ViewFaults.{fromsUnder, selectEnd, conditionSelect, whereGroups, widthsAt, BasicBytes, GroupedBytes};
 

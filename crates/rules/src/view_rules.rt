@@ -10,7 +10,7 @@ ghost use mathlib.Core.Bool.{false, _&&_};
 ghost use Prim.Native.Nat.{_≤_};
 ghost use lib.ListN.{length, drop};
 ghost use Rattle.bounds.specs.Walk.{isWithin};
-ghost use Rattle.rules.specs.Frames.{basicFrame, groupedFrame};
+ghost use Rattle.language.specs.Frames.{basicFrame, groupedFrame};
 ghost use Rattle.rules.specs.ViewRules.{putRanged, factorAt, viewFault, Product, Selects, Tail, Rules};
 
 // The fault of a view's frame that its bytes leave open, 0 for none; its row bound and its number of columns.

@@ -12,8 +12,8 @@ use Rattle.meaning.specs.Algebra.{MeaningOf}
 use Rattle.meaning.specs.Bounds.{schemas}
 use Rattle.meaning.specs.Valid.{Shaped}
 use Rattle.meaning.specs.Cases.{Case, isCase}
-use Rattle.rules.specs.Check.{Outcome}
-use Rattle.rules.specs.Legal.{tableAt}
+use Rattle.language.specs.Check.{Outcome}
+use Rattle.language.specs.Legal.{tableAt}
 use Rattle.store.specs.Layout.{area}
 use Rattle.store.specs.Rows.{rowsIn}
 use Rattle.cases.specs.Given.{Given}

@@ -4,7 +4,7 @@ use cases::needs;
 use cases::outline;
 use cases::outline::Outline;
 use rules::plan;
-ghost use Rattle.rules.specs.FileOf.{fileOf};
+ghost use Rattle.language.specs.FileOf.{fileOf};
 ghost use Rattle.trial.specs.Tried.{EveryRelation, Tried};
 
 // Whether the database is a case; then every relation is evaluated.

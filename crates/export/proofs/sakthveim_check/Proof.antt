@@ -1,6 +1,6 @@
 -- `export::sakthveim_check` meets its contract. Assumes nothing.
 use borrow.Author.Needs.{needs}
-use Rattle.rules.specs.FileOf.{fileOf}
+use Rattle.language.specs.FileOf.{fileOf}
 use Rattle.export.proofs.AnswerLaws.{answer-of}
 use Rattle.export.proofs.sakthveim_check.Statement.{statement}
 use Rattle.export.proofs.sakthveim_check.Tie as tie

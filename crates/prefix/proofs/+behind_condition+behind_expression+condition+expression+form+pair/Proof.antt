@@ -9,7 +9,7 @@ use lib.ListN.{length}
 use borrow.Author.Needs.{needs}
 use borrow.Fn.Kinds.{In}
 use borrow.Fn.PlainCycle.{Measures, is, falls, and}
-use Rattle.meaning.specs.Reading.{byteIf, step, readC}
+use Rattle.language.specs.Reading.{byteIf, step, readC}
 use Rattle.prefix.proofs.Ends.{field-if, field-step, fieldC}
 use Rattle.prefix.proofs.Skips.{level-refl, then-further, then-next, then-stop}
 use Rattle.prefix.proofs.Tokens.{past, on-constant, on-place, on-operation, on-rounding, on-choice, on-aggregate, unknownE, on-always, on-comparison, on-negated, on-connection, unknownC, form-ends, formE, formC, not-condition, not-expression, no-form, pair-further, pair-next, pair-stop}

@@ -3,7 +3,7 @@ use mathlib.Core.Path.{ap, sym, _∙_}
 use mathlib.Core.Bool.{_&&_}
 use lib.Dec.{leb}
 use borrow.Author.Needs.{needs}
-use Rattle.meaning.specs.Reading.{twoBytes}
+use Rattle.language.specs.Reading.{twoBytes}
 use Rattle.prefix.proofs.Skips.{then-stop}
 use Rattle.prefix.proofs.Fields.{step-in, step-over}
 use Rattle.prefix.proofs.step.Statement.{statement}

@@ -1,7 +1,7 @@
 -- `trial::sakthveim_evaluate` meets its contract. Assumes nothing.
 use mathlib.Core.Path.{refl}
 use borrow.Author.Needs.{needs}
-use Rattle.rules.specs.FileOf.{fileOf}
+use Rattle.language.specs.FileOf.{fileOf}
 use Rattle.trial.proofs.TrialLaws.{every-relation, refused-trial, accepted-trial}
 use Rattle.trial.proofs.sakthveim_evaluate.Statement.{statement}
 use Rattle.trial.proofs.sakthveim_evaluate.Tie as tie

@@ -6,7 +6,7 @@ use mathlib.Core.List.{List}
 use lib.ListN.{length}
 use borrow.Author.Needs.{needs}
 use Rattle.text.specs.Answers.{pack}
-use Rattle.rules.specs.Draft.{empty}
+use Rattle.language.specs.Draft.{empty}
 use Rattle.rules.specs.Standing.{Held, startState}
 use Rattle.rules.proofs.WalkLaws.{Left, never-short, walk-stops, walk-goes, walk-ends, walk-begins}
 use Rattle.rules.proofs.plan.walk.Statement.{statement}

@@ -2,7 +2,7 @@
 use borrow.Author.Needs.{needs}
 use native.Mathlib.Omega.{arith}
 use mathlib.Core.Path.{sym}
-use Rattle.meaning.specs.Reading.{readE}
+use Rattle.language.specs.Reading.{readE}
 use Rattle.prefix.proofs.Ends.{fieldE}
 use Rattle.rules.proofs.ViewByteLaws.{Repeated, repeat-holds, repeat-again, repeat-stops, repeat-ends}
 use Rattle.rules.proofs.view_bytes.expressions.Statement.{statement}

@@ -2,7 +2,7 @@
 use borrow.Author.Needs.{needs}
 use native.Mathlib.Omega.{arith}
 use mathlib.Core.Path.{sym, _∙_}
-use Rattle.rules.specs.Frames.{placeField}
+use Rattle.language.specs.Frames.{placeField}
 use Rattle.rules.proofs.ViewByteLaws.{place-skips, place-field, Repeated, repeat-holds, repeat-again, repeat-stops, repeat-ends}
 use Rattle.rules.proofs.view_bytes.places.Statement.{statement}
 use Rattle.rules.proofs.view_bytes.places.Tie as tie

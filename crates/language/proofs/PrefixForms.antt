@@ -1,0 +1,329 @@
+-- The facts about prefix forms, for bytes of any length.
+--     readE-step, readC-step    reading goes by the token, whatever the depth
+--     suffixE, suffixC          what is left ends the bytes
+--     soundE, soundC            what is read from bytes is the encoding of a tree in its limits
+--     backE, backC              such an encoding reads back as its tree, and the bytes behind it are left
+--     uniqueE, uniqueC          so no bytes begin with two encodings
+-- Assumes nothing.
+use mathlib.Core.Path.{_≡_, refl, sym, ap, _∙_}
+use mathlib.Core.Bool.{true}
+use mathlib.Core.List.{List, [], _∷_, _++_, append-assoc}
+use Prim.Native.Nat.{ℕ, zero, suc, _+_, _*_, _≤_, _<_}
+use native.Mathlib.Nat.{le-refl, div-add-mod'}
+use native.Mathlib.Omega.{arith}
+use lib.Dec.{ltb, leb}
+use lib.IntN.{ℤ, pos}
+use lib.ListN.{length, getD}
+use lib.Signed.{_≤ℤ_}
+use mir.Syntax.{w16}
+use mir.Val.{SFits}
+use borrow.Author.Tests.{ltb-true, leb-true, ltb-false, lt-ltb, le-leb}
+use Rattle.value.specs.Bag.{All}
+use Rattle.value.specs.Integer.{low16, high16, signedOf, bytesZ, bitsOf, highByte, lowByte}
+use Rattle.value.specs.Value.{Operation, Comparison, Connective, Aggregate, aggregateAt}
+use Rattle.value.proofs.Decides.{by-test}
+use Rattle.value.proofs.Linear.{diff-parts, ints}
+use Rattle.value.proofs.TwosComplement.{bytes-back, high-back, low-back, signed-low, signed-high}
+use Rattle.meaning.specs.Syntax.{Expr, Cond}
+use Rattle.language.specs.Prefix.{operationToken, comparisonToken, connectiveToken, aggregateByte, encodeE, encodeC}
+use Rattle.language.specs.Reading.{Read, Reader, done, _>>=_, choose, place, expressions, conditions, deepE, deepC, readE, readC, InLimitsE, InLimitsC}
+use Rattle.language.proofs.Readers.{Byte, one, Sound, SoundAll, entry, none, sound-done, sound-refuse, sound-bind, sound-byte, sound-byteIf, sound-step, sound-table, Alike, alike-suffix, Agree, AgreeAll, agree-done, agree-bind, agree-byte, agree-byteIf, agree-step, choose-same, agree-table, agree-empty, agree-deep, read-once}
+
+-- ---- fields
+
+-- two bytes stand for sixteen bits
+module _ (h l : ℕ) (p : Byte h) (q : Byte l) where
+  pub constant-limits : (low16 ≤ℤ bytesZ h l) × (bytesZ h l ≤ℤ high16)
+  constant-limits =
+      let n = h * 256 + l in
+      by-test (ltb n 32768)
+      (λ t. let b : n < 32768 = ltb-true n 32768 t in rw (signed-low n b) (omega ints, omega ints))
+      (λ t. let b : 32768 ≤ n = ltb-false n 32768 t in let d = diff-parts (pos n) (pos 65536) in rw (signed-high n b) (omega ints, omega ints))
+
+  constant-back : 0x00 ∷ h ∷ l ∷ [] ≡ encodeE (Expr.constant (bytesZ h l))
+  unfolding encodeE
+  constant-back = rw (high-back h l p q, low-back h l p q)
+
+pub constant-fits : (z : ℤ) → low16 ≤ℤ z → z ≤ℤ high16 → SFits w16 z
+constant-fits z l h = omega ints
+
+aggregate-back : (n : ℕ) → n ≤ 3 → aggregateByte (aggregateAt n) ≡ n
+aggregate-back zero h = refl
+aggregate-back (suc zero) h = refl
+aggregate-back (suc (suc zero)) h = refl
+aggregate-back (suc (suc (suc n))) h = let z : n ≡ 0 = omega arith in rw z
+
+pub aggregate-at : (op : Aggregate) → (leb (aggregateByte op) 3 ≡ true) × (aggregateAt (aggregateByte op) ≡ op)
+aggregate-at Aggregate.count = (refl, refl)
+aggregate-at Aggregate.sum = (refl, refl)
+aggregate-at Aggregate.minimum = (refl, refl)
+aggregate-at Aggregate.maximum = (refl, refl)
+
+module _ (cols : List ℕ) where
+  abbrev SoundE : Reader Expr → Type 0
+  SoundE e = Sound [] e encodeE (InLimitsE cols)
+
+  abbrev SoundC : Reader Cond → Type 0
+  SoundC c = Sound [] c encodeC (InLimitsC cols)
+
+  sound-place : Sound (one 0x01) (place cols) encodeE (InLimitsE cols)
+  unfolding encodeE InLimitsE
+  sound-place =
+      sound-bind (sound-byteIf 6 (λ i. ltb i (length cols))) (λ i p. sound-bind (sound-byteIf 6 (λ c. ltb c (getD cols i 0)))
+      (λ c q. sound-done (Expr.column i c) refl (ltb-true i (length cols) p, ltb-true c (getD cols i 0) q)))
+
+  agree-place : {k : ℕ} → Agree k (place cols) (place cols)
+  agree-place =
+      agree-bind (agree-byteIf 6 (λ i. ltb i (length cols))) (λ i. agree-bind (agree-byteIf 6 (λ c. ltb c (getD cols i 0))) (λ c. agree-done))
+
+  -- ---- soundness: one line for each token
+  module _ {e : Reader Expr} {c : Reader Cond} (se : SoundE e) (sc : SoundC c) where
+    sound-operation : (op : Operation) → Sound (one (operationToken op)) (e >>= λ a. e >>= λ b. done (Expr.operation op a b)) encodeE (InLimitsE cols)
+    unfolding encodeE InLimitsE
+    sound-operation op = sound-bind se (λ a p. sound-bind se (λ b q. sound-done (Expr.operation op a b) refl (p, q)))
+
+    sound-comparison : (op : Comparison) → Sound (one (comparisonToken op)) (e >>= λ a. e >>= λ b. done (Cond.comparison op a b)) encodeC (InLimitsC cols)
+    unfolding encodeC InLimitsC
+    sound-comparison op = sound-bind se (λ a p. sound-bind se (λ b q. sound-done (Cond.comparison op a b) refl (p, q)))
+
+    sound-connection : (op : Connective) → Sound (one (connectiveToken op)) (c >>= λ s. c >>= λ t. done (Cond.connection op s t)) encodeC (InLimitsC cols)
+    unfolding encodeC InLimitsC
+    sound-connection op = sound-bind sc (λ s p. sound-bind sc (λ t q. sound-done (Cond.connection op s t) refl (p, q)))
+
+    sound-aggregate : (n : ℕ) → leb n 3 ≡ true → Sound (0x07 ∷ n ∷ []) (e >>= λ a. done (Expr.aggregate (aggregateAt n) a)) encodeE (InLimitsE cols)
+    unfolding encodeE InLimitsE
+    sound-aggregate n h =
+        let b : n ≡ aggregateByte (aggregateAt n) = sym (aggregate-back n (leb-true n 3 h)) in
+        sound-bind se (λ a p. sound-done (Expr.aggregate (aggregateAt n) a) (ap (λ (t : ℕ). 0x07 ∷ t ∷ encodeE a) b) p)
+
+    sound-expressions : SoundAll encodeE (InLimitsE cols) (expressions cols e c)
+    unfolding encodeE InLimitsE
+    sound-expressions =
+        entry (sound-bind sound-byte (λ h p. sound-bind sound-byte (λ l q. sound-done (Expr.constant (bytesZ h l)) (constant-back h l p q) (constant-limits h l p q))))
+        (entry sound-place
+        (entry (sound-operation Operation.sum)
+        (entry (sound-operation Operation.difference)
+        (entry (sound-operation Operation.product)
+        (entry (sound-bind sound-step (λ m p. sound-bind se (λ a q. sound-done (Expr.rounding m a) refl (p .0, p .1, q))))
+        (entry (sound-bind sc (λ t h. sound-bind se (λ a p. sound-bind se (λ b q. sound-done (Expr.choice t a b) refl (h, p, q)))))
+        (entry (sound-bind (sound-byteIf 5 (λ n. leb n 3)) sound-aggregate)
+        none)))))))
+
+    sound-conditions : SoundAll encodeC (InLimitsC cols) (conditions e c)
+    unfolding encodeC InLimitsC
+    sound-conditions =
+        entry (sound-done Cond.always refl tt)
+        (entry (sound-comparison Comparison.equal)
+        (entry (sound-comparison Comparison.less)
+        (entry (sound-comparison Comparison.lessEqual)
+        (entry (sound-bind sc (λ t p. sound-done (Cond.negated t) refl p))
+        (entry (sound-connection Connective.conjunction)
+        (entry (sound-connection Connective.disjunction)
+        none))))))
+
+  mutual
+    unfolding deepE
+
+    deep-soundE : (n : ℕ) → SoundE (deepE cols n)
+    deep-soundE zero = sound-refuse
+    deep-soundE (suc n) = sound-table (sound-expressions (deep-soundE n) (deep-soundC n))
+
+    deep-soundC : (n : ℕ) → SoundC (deepC cols n)
+    deep-soundC zero = sound-refuse
+    deep-soundC (suc n) = sound-table (sound-conditions (deep-soundE n) (deep-soundC n))
+
+  pub soundE : (bs : List ℕ) (e : Expr) (rest : List ℕ) → All Byte bs → readE cols bs ≡ Read.ok e rest → (bs ≡ encodeE e ++ rest) × InLimitsE cols e
+  unfolding readE
+  soundE bs = deep-soundE (length bs) .reads bs
+
+  pub soundC : (bs : List ℕ) (c : Cond) (rest : List ℕ) → All Byte bs → readC cols bs ≡ Read.ok c rest → (bs ≡ encodeC c ++ rest) × InLimitsC cols c
+  unfolding readC
+  soundC bs = deep-soundC (length bs) .reads bs
+
+  -- ---- readers that agree make tables that agree: one line for each token
+  module _ {k : ℕ} {e f : Reader Expr} {c d : Reader Cond} (ae : Agree k e f) (ac : Agree k c d) where
+    agree-two : {A : Type 0} (g : Expr → Expr → A) → Agree k (e >>= λ a. e >>= λ b. done (g a b)) (f >>= λ a. f >>= λ b. done (g a b))
+    agree-two g = agree-bind ae (λ a. agree-bind ae (λ b. agree-done))
+
+    agree-connection : (op : Connective) → Agree k (c >>= λ s. c >>= λ t. done (Cond.connection op s t)) (d >>= λ s. d >>= λ t. done (Cond.connection op s t))
+    agree-connection op = agree-bind ac (λ s. agree-bind ac (λ t. agree-done))
+
+    agree-expressions : AgreeAll k (expressions cols e c) (expressions cols f d)
+    agree-expressions =
+        entry (agree-bind agree-byte (λ h. agree-bind agree-byte (λ l. agree-done)))
+        (entry agree-place
+        (entry (agree-two (Expr.operation Operation.sum))
+        (entry (agree-two (Expr.operation Operation.difference))
+        (entry (agree-two (Expr.operation Operation.product))
+        (entry (agree-bind agree-step (λ m. agree-bind ae (λ a. agree-done)))
+        (entry (agree-bind ac (λ t. agree-two (Expr.choice t)))
+        (entry (agree-bind (agree-byteIf 5 (λ n. leb n 3)) (λ n. agree-bind ae (λ a. agree-done)))
+        none)))))))
+
+    agree-conditions : AgreeAll k (conditions e c) (conditions f d)
+    agree-conditions =
+        entry agree-done
+        (entry (agree-two (Cond.comparison Comparison.equal))
+        (entry (agree-two (Cond.comparison Comparison.less))
+        (entry (agree-two (Cond.comparison Comparison.lessEqual))
+        (entry (agree-bind ac (λ t. agree-done))
+        (entry (agree-connection Connective.conjunction)
+        (entry (agree-connection Connective.disjunction)
+        none))))))
+
+  emptyE : (n : ℕ) → deepE cols n [] ≡ Read.refused 4
+  unfolding deepE
+  emptyE zero = refl
+  emptyE (suc n) = refl
+
+  emptyC : (n : ℕ) → deepC cols n [] ≡ Read.refused 4
+  unfolding deepC
+  emptyC zero = refl
+  emptyC (suc n) = refl
+
+  -- as deep as the bytes go is deep enough
+  mutual
+    unfolding deepE
+
+    enoughE : (n m k : ℕ) → k ≤ n → k ≤ m → Agree k (deepE cols n) (deepE cols m)
+    enoughE zero m k p q = agree-empty p (rw (emptyE m) Alike.refusal)
+    enoughE (suc n) zero k p q = agree-empty q Alike.refusal
+    enoughE (suc n) (suc m) k p q =
+        agree-table (λ j h. agree-expressions (enoughE n m j (omega arith) (omega arith)) (enoughC n m j (omega arith) (omega arith)))
+
+    enoughC : (n m k : ℕ) → k ≤ n → k ≤ m → Agree k (deepC cols n) (deepC cols m)
+    enoughC zero m k p q = agree-empty p (rw (emptyC m) Alike.refusal)
+    enoughC (suc n) zero k p q = agree-empty q Alike.refusal
+    enoughC (suc n) (suc m) k p q =
+        agree-table (λ j h. agree-conditions (enoughE n m j (omega arith) (omega arith)) (enoughC n m j (omega arith) (omega arith)))
+
+  deep-readE : (n : ℕ) → Agree n (deepE cols n) (readE cols)
+  unfolding readE
+  deep-readE = agree-deep enoughE
+
+  deep-readC : (n : ℕ) → Agree n (deepC cols n) (readC cols)
+  unfolding readC
+  deep-readC = agree-deep enoughC
+
+  -- ---- whatever the bytes are, those behind a tree end them
+  pub suffixE : (bs : List ℕ) (e : Expr) (rest : List ℕ) → readE cols bs ≡ Read.ok e rest → (used : List ℕ) × (bs ≡ used ++ rest)
+  suffixE bs e rest = alike-suffix (deep-readE (length bs) .same bs (le-refl (length bs)))
+
+  pub suffixC : (bs : List ℕ) (c : Cond) (rest : List ℕ) → readC cols bs ≡ Read.ok c rest → (used : List ℕ) × (bs ≡ used ++ rest)
+  suffixC bs c rest = alike-suffix (deep-readC (length bs) .same bs (le-refl (length bs)))
+
+  -- ---- reading goes by the token
+  pub readE-nil : readE cols [] ≡ Read.refused 4
+  unfolding readE
+  readE-nil = emptyE 0
+
+  pub readC-nil : readC cols [] ≡ Read.refused 4
+  unfolding readC
+  readC-nil = emptyC 0
+
+  pub readE-step : (t : ℕ) (bs : List ℕ) → readE cols (t ∷ bs) ≡ choose (expressions cols (readE cols) (readC cols)) t bs
+  unfolding readE deepE
+  readE-step t bs = choose-same t bs (agree-expressions (deep-readE (length bs)) (deep-readC (length bs)))
+
+  pub readC-step : (t : ℕ) (bs : List ℕ) → readC cols (t ∷ bs) ≡ choose (conditions (readE cols) (readC cols)) t bs
+  unfolding readC deepC
+  readC-step t bs = choose-same t bs (agree-conditions (deep-readE (length bs)) (deep-readC (length bs)))
+
+  -- the tokens of one kind of node
+  pub readE-operation : (op : Operation) (bs : List ℕ)
+      → readE cols (operationToken op ∷ bs) ≡ (readE cols >>= λ a. readE cols >>= λ b. done (Expr.operation op a b)) bs
+  readE-operation Operation.sum = readE-step 0x02
+  readE-operation Operation.difference = readE-step 0x03
+  readE-operation Operation.product = readE-step 0x04
+
+  pub readC-comparison : (op : Comparison) (bs : List ℕ)
+      → readC cols (comparisonToken op ∷ bs) ≡ (readE cols >>= λ a. readE cols >>= λ b. done (Cond.comparison op a b)) bs
+  readC-comparison Comparison.equal = readC-step 0x11
+  readC-comparison Comparison.less = readC-step 0x12
+  readC-comparison Comparison.lessEqual = readC-step 0x13
+
+  pub readC-connection : (op : Connective) (bs : List ℕ)
+      → readC cols (connectiveToken op ∷ bs) ≡ (readC cols >>= λ s. readC cols >>= λ t. done (Cond.connection op s t)) bs
+  readC-connection Connective.conjunction = readC-step 0x15
+  readC-connection Connective.disjunction = readC-step 0x16
+
+  -- ---- an encoding reads back
+  mutual
+    unfolding encodeE InLimitsE
+
+    pub backE : (e : Expr) (rest : List ℕ) → InLimitsE cols e → readE cols (encodeE e ++ rest) ≡ Read.ok e rest
+    backE (Expr.constant z) rest h =
+        readE-step 0x00 (highByte z ∷ lowByte z ∷ rest) ∙ ap (λ (n : ℤ). Read.ok (Expr.constant n) rest) (bytes-back z (constant-fits z (h .0) (h .1)))
+    backE (Expr.column i c) rest h = readE-step 0x01 (i ∷ c ∷ rest) ∙ rw (lt-ltb _ _ (h .0), lt-ltb _ _ (h .1))
+    backE (Expr.operation op a b) rest h =
+        readE-operation op _ ∙ rw (append-assoc (encodeE a) (encodeE b) rest, backE a _ (h .0), backE b _ (h .1))
+    backE (Expr.rounding m a) rest h =
+        readE-step 0x05 _ ∙ rw (div-add-mod' m 256, le-leb 1 m (h .0), le-leb m 1000 (h .1), backE a _ (h .2))
+    backE (Expr.choice c a b) rest h =
+        readE-step 0x06 _
+        ∙ rw (
+          append-assoc (encodeC c ++ encodeE a) (encodeE b) rest,
+          append-assoc (encodeC c) (encodeE a) (encodeE b ++ rest),
+          backC c _ (h .0),
+          backE a _ (h .1),
+          backE b _ (h .2),
+        )
+    backE (Expr.aggregate op a) rest h =
+        readE-step 0x07 _ ∙ rw (aggregate-at op .0, backE a _ h, aggregate-at op .1)
+
+    pub backC : (c : Cond) (rest : List ℕ) → InLimitsC cols c → readC cols (encodeC c ++ rest) ≡ Read.ok c rest
+    backC Cond.always rest h = readC-step 0x10 rest
+    backC (Cond.comparison op a b) rest h =
+        readC-comparison op _ ∙ rw (append-assoc (encodeE a) (encodeE b) rest, backE a _ (h .0), backE b _ (h .1))
+    backC (Cond.negated c) rest h = readC-step 0x14 _ ∙ rw (backC c _ h)
+    backC (Cond.connection op c d) rest h =
+        readC-connection op _ ∙ rw (append-assoc (encodeC c) (encodeC d) rest, backC c _ (h .0), backC d _ (h .1))
+
+  -- ---- no bytes begin with two encodings
+  pub uniqueE : (e e′ : Expr) (rest rest′ : List ℕ) → InLimitsE cols e → InLimitsE cols e′ → encodeE e ++ rest ≡ encodeE e′ ++ rest′
+      → (e ≡ e′) × (rest ≡ rest′)
+  uniqueE e e′ rest rest′ p q = read-once (readE cols) (backE e rest p) (backE e′ rest′ q)
+
+  pub uniqueC : (c c′ : Cond) (rest rest′ : List ℕ) → InLimitsC cols c → InLimitsC cols c′ → encodeC c ++ rest ≡ encodeC c′ ++ rest′
+      → (c ≡ c′) × (rest ≡ rest′)
+  uniqueC c c′ rest rest′ p q = read-once (readC cols) (backC c rest p) (backC c′ rest′ q)
+
+-- ---- examples, over one from item with one column: document 01's where condition, 8 < column 0 of from item 0, and its select expression
+where-condition : Cond
+where-condition = Cond.comparison Comparison.less (Expr.constant (pos 8)) (Expr.column 0 0)
+
+where-bytes : List ℕ
+where-bytes = 0x12 ∷ 0x00 ∷ 0x00 ∷ 0x08 ∷ 0x01 ∷ 0x00 ∷ 0x00 ∷ []
+
+select-bytes : List ℕ
+select-bytes = 0x01 ∷ 0x00 ∷ 0x00 ∷ []
+
+where-encodes : encodeC where-condition ≡ where-bytes
+unfolding encodeC where-condition where-bytes bitsOf
+where-encodes = refl
+
+where-reads : readC (1 ∷ []) (where-bytes ++ select-bytes) ≡ Read.ok where-condition select-bytes
+unfolding readC deepC where-condition where-bytes select-bytes signedOf
+where-reads = refl
+
+select-reads : readE (1 ∷ []) select-bytes ≡ Read.ok (Expr.column 0 0) []
+unfolding readE deepE select-bytes
+select-reads = refl
+
+-- 4: the bytes end early, and a condition token stands where an expression is due
+ends-early : readE (1 ∷ []) (0x02 ∷ 0x01 ∷ 0x00 ∷ 0x00 ∷ []) ≡ Read.refused 4
+unfolding readE deepE
+ends-early = refl
+
+not-an-expression : readE (1 ∷ []) where-bytes ≡ Read.refused 4
+unfolding readE deepE where-bytes
+not-an-expression = refl
+
+-- 5: a step of 1,001; 6: a second from item
+step-too-large : readE (1 ∷ []) (0x05 ∷ 0x03 ∷ 0xe9 ∷ select-bytes) ≡ Read.refused 5
+unfolding readE deepE select-bytes
+step-too-large = refl
+
+no-such-item : readE (1 ∷ []) (0x01 ∷ 0x01 ∷ 0x00 ∷ []) ≡ Read.refused 6
+unfolding readE deepE
+no-such-item = refl
