@@ -59,7 +59,6 @@ pub record Tabled (F : File) (vs : List Value) (shape : List ℕ) (tables : ℕ)
 pub record TablesLined (shape : List ℕ) (tables : ℕ) (cells : List ℤ) (at : ℕ) (out : List ℕ) (r : ℕ) (out′ : List ℕ) : Type 0 where
   pub lined : (F : File) (vs : List Value) → Tabled F vs shape tables cells → at + 2160 ≤ length out → Grown (tableFrames 0 (cut (F .tables) vs)) at out r out′
 
--- the lines of case k of an accepted text, whose cells these are
-pub record CaseLined (text : List ℕ) (k : ℕ) (shownCells : List ℤ) (out : List ℕ) (r : ℕ) (out′ : List ℕ) : Type 0 where
-  pub lined : (F : File) → fileOf text ≡ Outcome.accepted F → cellCount F ≤ length shownCells → take (cellCount F) shownCells ≡ map shown (cells F k)
-      → outputRoom ≤ length out → Grown (answerFrames F (Answer.case k)) 0 out r out′
+-- the lines of case k of a file, whose cells these are
+pub record CaseLined (shape : List ℕ) (tables k : ℕ) (shownCells : List ℤ) (out : List ℕ) (r : ℕ) (out′ : List ℕ) : Type 0 where
+  pub lined : (F : File) → Tabled F (cells F k) shape tables shownCells → outputRoom ≤ length out → Grown (answerFrames F (Answer.case k)) 0 out r out′
