@@ -30,8 +30,8 @@ use Rattle.language.proofs.WholeSearch.{first, shownAll, all-case, all-none, an
 use Rattle.look.proofs.CodeLaws.{codes-few}
 use Rattle.look.proofs.LookLaws.{looks-planned}
 use Rattle.language.proofs.RealLooks.{look-of-text}
-use Rattle.language.specs.OutputOf.{noCaseFrame, refusalFrame, answerFrames, searchedAll, outcomeFrames, outputOf}
-use Rattle.report.specs.Lines.{outputRoom, Printed, Grown, CaseLined}
+use Rattle.language.specs.OutputOf.{noCaseFrame, refusalFrame, answerFrames, searchedAll, outcomeFrames, outputOf, outputRoom, Printed}
+use Rattle.report.specs.Lines.{Grown, CaseLined}
 use Rattle.report.proofs.CaseLaws.{tabled}
 use Rattle.report.proofs.LineLaws.{grown-line, grown-whole}
 

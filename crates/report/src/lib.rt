@@ -8,8 +8,8 @@ use value::integer;
 ghost use mathlib.Core.Path.{_≡_};
 ghost use Prim.Native.Nat.{_+_, _*_, _≤_};
 ghost use lib.ListN.{length};
-ghost use Rattle.language.specs.OutputOf.{caseFrame, refusalFrame};
-ghost use Rattle.report.specs.Lines.{CellsPut, TableLined, TablesLined, CaseLined, Printed};
+ghost use Rattle.language.specs.OutputOf.{caseFrame, refusalFrame, Printed};
+ghost use Rattle.report.specs.Lines.{CellsPut, TableLined, TablesLined, CaseLined};
 
 // Room for any output: a line of 11 bytes for the case, and for each of 16 tables one of at most 135, with 32 cells.
 pub const ROOM: usize = 2171;
