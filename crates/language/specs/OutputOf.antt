@@ -1,10 +1,13 @@
 -- "The program": what it prints for a text. "It searches from 0 to the end. Output, one frame a line: 80 and k in four bytes, then for
 -- each table 81, relation, rows, values row by row in two bytes; or 82 for no case; or 8f, number, line in two bytes." Assumes nothing:
 -- these are definitions, and they compute.
+use mathlib.Core.Path.{_≡_}
+use mathlib.Core.Bool.{cond}
 use mathlib.Core.List.{List, [], _∷_, _++_, map}
 use Prim.Native.Nat.{ℕ, suc, _/_, _%_}
+use lib.Dec.{ltb}
 use lib.IntN.{ℤ}
-use lib.ListN.{length}
+use lib.ListN.{length, drop}
 use Rattle.value.specs.Integer.{highByte, lowByte}
 use Rattle.value.specs.Value.{Value, shown}
 use Rattle.meaning.specs.Lists.{joined}
@@ -79,3 +82,12 @@ outputOf text = textOf (outcomeFrames (fileOf text))
 -- how many bytes of a text settle its output: one more than the 8,192 of a rule file, so that a longer text is seen to be too long
 abbrev pub inputRoom : ℕ
 inputRoom = 8193
+
+-- room for any output: a line of 11 bytes for the case, and for each of 16 tables one of at most 135, with 32 cells
+abbrev pub outputRoom : ℕ
+outputRoom = 2171
+
+-- the whole output at the front of a buffer with that room, and its length; a shorter buffer is left as it is, and the answer is 0
+pub record Printed (text out : List ℕ) (r : ℕ) (out′ : List ℕ) : Type 0 where
+  pub length-is : r ≡ cond (ltb (length out) outputRoom) 0 (length (outputOf text))
+  pub left : out′ ≡ cond (ltb (length out) outputRoom) out (outputOf text ++ drop (length (outputOf text)) out)

@@ -4,14 +4,15 @@ use mathlib.Core.Bool.{cond}
 use mathlib.Core.List.{List, _++_, map}
 use Prim.Native.Nat.{ℕ, _+_, _-_, _≤_, _<_, min}
 use native.Mathlib.Omega.{arith}
-use borrow.Author.Tests.{lt-ltb, le-ltb, eq-eqb, ne-eqb}
-use lib.Dec.{eqb}
+use borrow.Author.Tests.{lt-ltb, ltb-true, ltb-false, eq-eqb, ne-eqb}
+use lib.Dec.{ltb, eqb}
 use lib.IntN.{ℤ, pos}
 use lib.ListN.{length, drop, replicate}
 use Rattle.value.specs.Value.{Value, shown}
+use Rattle.value.proofs.Decides.{by-test}
 use Rattle.meaning.specs.Syntax.{File}
-use Rattle.meaning.specs.Candidates.{cellCount, candidates, cells}
-use Rattle.meaning.specs.Look.{Answer, After, seek, zeros, workSize, candidate, shownIn, verdict, look}
+use Rattle.meaning.specs.Candidates.{candidates, cells}
+use Rattle.meaning.specs.Look.{Answer, After, seek, zeros, workSize, refusal, candidate, shownIn, verdict, look}
 use Rattle.meaning.proofs.LookTests.{look-short, look-late, look-on, verdict-case, verdict-none}
 use Rattle.language.specs.Check.{Outcome}
 use Rattle.language.specs.FileOf.{fileOf}
@@ -24,7 +25,7 @@ use Rattle.look.specs.Cells.{codesOf, cellsIn, TablesCoded}
 use Rattle.look.specs.Moves.{Digits}
 use Rattle.look.specs.Scans.{Searches}
 use Rattle.look.specs.Buffers.{Shows}
-use Rattle.look.specs.Looks.{answerOf, Concludes, Finds}
+use Rattle.look.specs.Looks.{answerOf, Concludes, Finds, LooksAt}
 use Rattle.language.specs.LookOf.{lookAt, lookOf}
 use Rattle.look.specs.declared.Answer.{Answer as Answered}
 use Rattle.look.specs.declared.Answer.the-variants.{Case, NoCase, Spent, Refused}
@@ -102,33 +103,55 @@ module _ {bytes starts shape : List ℕ} {o : Outline} {n start count : ℕ} {wo
         ap₂ (λ (a : Answer) (b : List ℤ). After.after a b inst) a w ∙ sym (looks F G e whole ∙ verdict-none F work inst end k h);
   }
 
+-- ---- a look at a plan
+
+look-unsized : (F : File) (start count : ℕ) (work inst : List ℤ) → length work < workSize → look F start count work inst ≡ refusal 11 work inst
+unfolding look
+look-unsized F start count work inst h = rw (lt-ltb (length work) workSize h)
+
+module _ {p : Plan} {start count : ℕ} {work inst : List ℤ} where
+  pub at-short : length work < workSize → LooksAt p start count work inst (Refused 11 0) work inst
+  at-short h = record {
+    work-size = refl;
+    inst-size = refl;
+    short = λ _. refl;
+    refused = λ whole k. absurd (omega arith);
+    accepted = λ F l P. sym (look-unsized F start count work inst h);
+  }
+
+  pub at-refused : workSize ≤ length work → (p .number ≡ 0 → ⊥) → LooksAt p start count work inst (Refused (p .number) (p .line)) work inst
+  at-refused whole k = record {
+    work-size = refl;
+    inst-size = refl;
+    short = λ h. absurd (omega arith);
+    refused = λ _ _. refl;
+    accepted = λ F l P. absurd (k (P .number));
+  }
+
+  pub at-file : {o : Outline} {r : Answered} {work′ inst′ : List ℤ} → length work′ ≡ length work → length inst′ ≡ length inst → workSize ≤ length work
+      → p .number ≡ 0 → Outlines p o → Finds (p .bytes) (p .starts) (p .shape) o (p .candidates) start count work inst r work′ inst′
+      → LooksAt p start count work inst r work′ inst′
+  at-file w i whole z O L = record {
+    work-size = w;
+    inst-size = i;
+    short = λ h. absurd (omega arith);
+    refused = λ _ k. absurd (k z);
+    accepted = λ F l P. L .finds F (O .given F l P) (P .candidates-are) whole;
+  }
+
 -- ---- a look at a text
 
-module _ (text : List ℕ) (start count : ℕ) (work inst : List ℤ) where
-  pub looks-short : length work < workSize → After.after (Answer.refused 11 0) work inst ≡ lookOf text start count work inst
+module _ (text : List ℕ) {p : Plan} {start count : ℕ} {work inst : List ℤ} {r : Answered} {work′ inst′ : List ℤ}
+    (L : LooksAt p start count work inst r work′ inst′) where
+  looks-so : workSize ≤ length work → (out : Outcome) → fileOf text ≡ out → Plans out p → After.after (answerOf r) work′ inst′ ≡ lookAt out start count work inst
+  looks-so whole (Outcome.refused n line) e P =
+      L .refused whole (λ z. P .2 (sym (P .0) ∙ z)) ∙ ap₂ (λ a b. After.after (Answer.refused a b) work inst) (P .0) (P .1)
+  looks-so whole (Outcome.accepted F) e P = L .accepted F (accepted-text text F e .legal) P
+
+  -- a look at the plan of a text is one at the text
+  pub looks-planned : Plans (fileOf text) p → After.after (answerOf r) work′ inst′ ≡ lookOf text start count work inst
   unfolding lookOf
-  looks-short h = rw (lt-ltb (length work) workSize h)
-
-  looks-at : (a : After) → workSize ≤ length work → a ≡ lookAt (fileOf text) start count work inst → a ≡ lookOf text start count work inst
-  unfolding lookOf
-  looks-at a h e = rw (le-ltb (length work) workSize h) e
-
-  refused-at : (out : Outcome) (p : Plan) → Plans out p → (p .number ≡ 0 → ⊥)
-      → After.after (Answer.refused (p .number) (p .line)) work inst ≡ lookAt out start count work inst
-  refused-at (Outcome.refused n line) p h k = ap₂ (λ a b. After.after (Answer.refused a b) work inst) (h .0) (h .1)
-  refused-at (Outcome.accepted F) p h k = absurd (k (h .number))
-
-  pub looks-refused : (p : Plan) → workSize ≤ length work → Plans (fileOf text) p → (p .number ≡ 0 → ⊥)
-      → After.after (Answer.refused (p .number) (p .line)) work inst ≡ lookOf text start count work inst
-  looks-refused p h P k = looks-at (After.after (Answer.refused (p .number) (p .line)) work inst) h (refused-at (fileOf text) p P k)
-
-  accepted-at : (out : Outcome) {p : Plan} {o : Outline} {r : Answered} {work′ inst′ : List ℤ} → fileOf text ≡ out → workSize ≤ length work
-      → Plans out p → p .number ≡ 0 → Outlines p o → Finds (p .bytes) (p .starts) (p .shape) o (p .candidates) start count work inst r work′ inst′
-      → After.after (answerOf r) work′ inst′ ≡ lookAt out start count work inst
-  accepted-at (Outcome.refused n line) e h P z O L = absurd (P .2 (sym (P .0) ∙ z))
-  accepted-at (Outcome.accepted F) e h P z O L = L .finds F (O .given F (accepted-text text F e .legal) P) (P .candidates-are) h
-
-  pub looks-accepted : {p : Plan} {o : Outline} {r : Answered} {work′ inst′ : List ℤ} → workSize ≤ length work → Plans (fileOf text) p → p .number ≡ 0
-      → Outlines p o → Finds (p .bytes) (p .starts) (p .shape) o (p .candidates) start count work inst r work′ inst′
-      → After.after (answerOf r) work′ inst′ ≡ lookOf text start count work inst
-  looks-accepted {r = r} {work′} {inst′} h P z O L = looks-at (After.after (answerOf r) work′ inst′) h (accepted-at (fileOf text) refl h P z O L)
+  looks-planned P =
+      by-test (ltb (length work) workSize)
+      (λ t. rw t (L .short (ltb-true (length work) workSize t)))
+      (λ t. rw t (looks-so (ltb-false (length work) workSize t) (fileOf text) refl P))

@@ -2,13 +2,16 @@
 use mathlib.Core.Path.{_≡_}
 use mathlib.Core.Bool.{cond}
 use mathlib.Core.List.{List}
-use Prim.Native.Nat.{ℕ, _≤_}
+use Prim.Native.Nat.{ℕ, _≤_, _<_}
 use lib.Dec.{eqb}
 use lib.IntN.{ℤ}
 use lib.ListN.{length}
 use Rattle.meaning.specs.Syntax.{File}
 use Rattle.meaning.specs.Candidates.{candidates}
-use Rattle.meaning.specs.Look.{Answer, After, workSize, look}
+use Rattle.meaning.specs.Look.{Answer, After, workSize, refusal, look}
+use Rattle.language.specs.Legal.{Legal}
+use Rattle.rules.specs.Plans.{PlanOf}
+use Rattle.rules.specs.declared.plan.Plan.{Plan}
 use Rattle.cases.specs.Given.{Given}
 use Rattle.cases.specs.declared.outline.Outline.{Outline}
 use Rattle.look.specs.declared.Answer.{Answer as Answered}
@@ -29,3 +32,11 @@ pub record Concludes (end n : ℕ) (r : Answered) : Type 0 where
 pub record Finds (bytes starts shape : List ℕ) (o : Outline) (n start count : ℕ) (work inst : List ℤ) (r : Answered) (work′ inst′ : List ℤ) : Type 0 where
   pub finds : (F : File) → Given F bytes starts shape o → n ≡ candidates F → workSize ≤ length work
       → After.after (answerOf r) work′ inst′ ≡ look F start count work inst
+
+-- a look at a plan: of the plan of a legal file, and of a refusal's
+pub record LooksAt (p : Plan) (start count : ℕ) (work inst : List ℤ) (r : Answered) (work′ inst′ : List ℤ) : Type 0 where
+  pub work-size : length work′ ≡ length work
+  pub inst-size : length inst′ ≡ length inst
+  pub short : length work < workSize → After.after (answerOf r) work′ inst′ ≡ refusal 11 work inst
+  pub refused : workSize ≤ length work → (p .number ≡ 0 → ⊥) → After.after (answerOf r) work′ inst′ ≡ After.after (Answer.refused (p .number) (p .line)) work inst
+  pub accepted : (F : File) → Legal F → PlanOf F p → After.after (answerOf r) work′ inst′ ≡ look F start count work inst

@@ -7,9 +7,10 @@ pub mod scan;
 use cases::outline;
 use cases::outline::Outline;
 use rules::plan;
+use rules::plan::Plan;
 ghost use mathlib.Core.Path.{_≡_};
 ghost use Rattle.meaning.specs.Look.{After};
-ghost use Rattle.look.specs.Looks.{answerOf, Concludes, Finds};
+ghost use Rattle.look.specs.Looks.{answerOf, Concludes, Finds, LooksAt};
 ghost use Rattle.language.specs.LookOf.{lookOf};
 
 // The work area has at least this many numbers.
@@ -66,15 +67,15 @@ fn looked(
     concluded(end, n)
 }
 
-// A look: for every text, start, count and buffers, the answer and what the buffers then hold.
-// Refused: every text refused; 9,215 numbers as enough.
-pub fn look(text: &[u8], start: u64, count: u64, work: &mut [i32], instance: &mut [i16]) -> Answer
-    ensures { λ r. ⌜ After.after (answerOf r) (now (work .exit)) (now (instance .exit)) ≡ lookOf (now (text .entry)) start count (now (work .entry)) (now (instance .entry)) ⌝ }
+// A look at a plan: 11 first, then the plan's own refusal, then 12 and 13. What a plan of number 0 that is of no legal file gives is left
+// open but for 11 and the buffers' lengths: the checker gives no such plan.
+// Refused: every plan refused; 9,215 numbers as enough.
+pub fn look_at(p: Plan, start: u64, count: u64, work: &mut [i32], instance: &mut [i16]) -> Answer
+    ensures { λ r. ⌜ LooksAt p start count (now (work .entry)) (now (instance .entry)) r (now (work .exit)) (now (instance .exit)) ⌝ }
 {
     if work.len() < AREA {
         return Answer::Refused(11, 0);
     }
-    let p = plan::check(text);
     if p.number != 0 {
         return Answer::Refused(p.number, p.line);
     }
@@ -84,4 +85,13 @@ pub fn look(text: &[u8], start: u64, count: u64, work: &mut [i32], instance: &mu
     let n = p.candidates;
     let o = outline::outline_of(p);
     looked(&bytes, &starts, &shape, o, n, start, count, work, instance)
+}
+
+// A look: for every text, start, count and buffers, the answer and what the buffers then hold.
+// Refused: a search from 0 for any start; start and count swapped.
+pub fn look(text: &[u8], start: u64, count: u64, work: &mut [i32], instance: &mut [i16]) -> Answer
+    ensures { λ r. ⌜ After.after (answerOf r) (now (work .exit)) (now (instance .exit)) ≡ lookOf (now (text .entry)) start count (now (work .entry)) (now (instance .entry)) ⌝ }
+{
+    let p = plan::check(text);
+    look_at(p, start, count, work, instance)
 }

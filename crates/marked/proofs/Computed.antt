@@ -32,8 +32,7 @@ use Rattle.language.specs.FileOf.{fileOf}
 use Rattle.language.proofs.TextLaws.{accepted-text}
 use Rattle.language.proofs.RealLooks.{look-of-text, demand-3, look-says}
 use Rattle.language.specs.LookOf.{lookOf}
-use Rattle.language.specs.OutputOf.{numberBytes, tableFrame, searchedAll, outputOf}
-use Rattle.report.specs.Lines.{outputRoom, Printed}
+use Rattle.language.specs.OutputOf.{numberBytes, tableFrame, searchedAll, outputOf, outputRoom, Printed}
 use Rattle.marked.specs.Table.{Entry, Gives, Judges, Prints, Right}
 
 -- ---- a look

@@ -18,8 +18,7 @@ use Rattle.meaning.specs.Looks.{CaseAt, NoDatabase, upTo}
 use Rattle.language.specs.Check.{Outcome}
 use Rattle.language.specs.FileOf.{fileOf}
 use Rattle.language.specs.LookOf.{lookOf}
-use Rattle.language.specs.OutputOf.{outputOf}
-use Rattle.report.specs.Lines.{outputRoom, Printed}
+use Rattle.language.specs.OutputOf.{outputOf, outputRoom, Printed}
 
 -- ---- entries, and what each says
 

@@ -1,4 +1,4 @@
--- The lines of a case of an accepted text. Assumes nothing.
+-- The lines of a case, and where an accepted text's plan says that its cells stand. Assumes nothing.
 use mathlib.Core.Path.{_≡_, ap, subst, _∙_}
 use mathlib.Core.List.{List, [], _∷_, map}
 use Prim.Native.Nat.{ℕ, _≤_}
@@ -24,30 +24,29 @@ use Rattle.language.specs.OutputOf.{caseFrame}
 use Rattle.report.specs.Lines.{Grown, Tabled, TablesLined, CaseLined}
 use Rattle.report.proofs.LineLaws.{grown-line, grown-more}
 
-module _ (text : List ℕ) (p : Plan) (P : Plans (fileOf text) p) where
-  -- the plan of an accepted text says where the cells of a candidate stand
-  tabled : (F : File) (k : ℕ) {shows : List ℤ} → fileOf text ≡ Outcome.accepted F → cellCount F ≤ length shows
-      → take (cellCount F) shows ≡ map shown (cells F k) → Tabled F (cells F k) (p .shape) (p .tables) shows
-  tabled F k {shows} e room same =
-      let Q : PlanOf F p = subst (λ (o : Outcome). Plans o p) e P in
-      let n : length (cells F k) ≡ cellCount F = length-cells F k in
-      record {
-        legal = accepted-text text F e .legal;
-        number = Q .tables;
-        rows = λ t h. Q .bounds t ∙ bound-is F t (omega (arith, h, Q .tables));
-        columns = λ t h. Q .widths t ∙ table-width F t (omega (arith, h, Q .tables));
-        count = n;
-        room = omega (arith, n, room);
-        shows = ap (λ i. take i shows) n ∙ same;
-      }
+-- the plan of an accepted text says where the cells of a candidate stand
+pub tabled : (text : List ℕ) (p : Plan) → Plans (fileOf text) p → (F : File) (k : ℕ) {shows : List ℤ} → fileOf text ≡ Outcome.accepted F
+    → cellCount F ≤ length shows → take (cellCount F) shows ≡ map shown (cells F k) → Tabled F (cells F k) (p .shape) (p .tables) shows
+tabled text p P F k {shows} e room same =
+    let Q : PlanOf F p = subst (λ (o : Outcome). Plans o p) e P in
+    let n : length (cells F k) ≡ cellCount F = length-cells F k in
+    record {
+      legal = accepted-text text F e .legal;
+      number = Q .tables;
+      rows = λ t h. Q .bounds t ∙ bound-is F t (omega (arith, h, Q .tables));
+      columns = λ t h. Q .widths t ∙ table-width F t (omega (arith, h, Q .tables));
+      count = n;
+      room = omega (arith, n, room);
+      shows = ap (λ i. take i shows) n ∙ same;
+    }
 
-  pub case-lined : {k : ℕ} {shows : List ℤ} {f out out₁ out′ : List ℕ} {at r : ℕ} → f ≡ caseFrame k → Written f 0 out at out₁
-      → TablesLined (p .shape) (p .tables) shows at out₁ r out′ → CaseLined text k shows out r out′
-  unfolding database
-  case-lined {k} {shows} {f} {out} {out₁} {out′} {at} {r} own w L = record {
-    lined = λ F e fits same room.
-        let n : length (line (caseFrame k)) ≡ 11 = length-line (caseFrame k) in
-        let g : Grown (caseFrame k ∷ []) 0 out at out₁ = grown-line (subst (λ (l : List ℕ). Written l 0 out at out₁) own w) (omega (arith, n, room)) in
-        let here : at ≡ 11 = omega (arith, g .next, ap length (text-one (caseFrame k)), n) in
-        grown-more g (L .lined F (cells F k) (tabled F k e fits same) (omega (arith, here, room, g .size)));
-  }
+pub case-lined : {shape : List ℕ} {tables k : ℕ} {shows : List ℤ} {f out out₁ out′ : List ℕ} {at r : ℕ} → f ≡ caseFrame k → Written f 0 out at out₁
+    → TablesLined shape tables shows at out₁ r out′ → CaseLined shape tables k shows out r out′
+unfolding database
+case-lined {k = k} {f = f} {out} {out₁} {at = at} own w L = record {
+  lined = λ F t room.
+      let n : length (line (caseFrame k)) ≡ 11 = length-line (caseFrame k) in
+      let g : Grown (caseFrame k ∷ []) 0 out at out₁ = grown-line (subst (λ (l : List ℕ). Written l 0 out at out₁) own w) (omega (arith, n, room)) in
+      let here : at ≡ 11 = omega (arith, g .next, ap length (text-one (caseFrame k)), n) in
+      grown-more g (L .lined F (cells F k) t (omega (arith, here, room, g .size)));
+}

@@ -1,11 +1,10 @@
 -- The program's output from the answer to its look, and the output's length. Assumes nothing.
-use mathlib.Core.Path.{_≡_, refl, sym, ap, ap₂, subst, _∙_}
-use mathlib.Core.Bool.{cond}
+use mathlib.Core.Path.{_≡_, refl, sym, ap, subst, _∙_}
 use mathlib.Core.List.{List, [], _∷_, _++_, map}
-use Prim.Native.Nat.{ℕ, _+_, _-_, _≤_, _<_, min}
+use Prim.Native.Nat.{ℕ, _≤_, _<_}
 use native.Mathlib.Omega.{arith}
-use borrow.Author.Tests.{le-ltb, lt-ltb, ltb-true, ltb-false, eq-eqb}
-use lib.Dec.{ltb, eqb}
+use borrow.Author.Tests.{le-ltb, lt-ltb, ltb-true, ltb-false}
+use lib.Dec.{ltb}
 use lib.IntN.{ℤ}
 use lib.ListN.{length, take, drop, length-append, length-drop, length-map}
 use lib.Seq.{take-at}
@@ -13,7 +12,7 @@ use Rattle.value.specs.Value.{shown}
 use Rattle.value.proofs.Decides.{by-test}
 use Rattle.meaning.specs.Syntax.{File}
 use Rattle.meaning.specs.Candidates.{cellCount, candidates, cells}
-use Rattle.meaning.specs.Look.{Answer, After, answerIn, instIn, numberOf, seek, searched, zeros, workSize, candidate, shownIn, verdict, look}
+use Rattle.meaning.specs.Look.{Answer, After, answerIn, instIn, numberOf, zeros, workSize, shownIn}
 use Rattle.meaning.proofs.Numbering.{length-cells}
 use Rattle.text.specs.Answers.{Written}
 use Rattle.text.proofs.Writing.{length-line}
@@ -21,15 +20,19 @@ use Rattle.language.specs.Check.{Outcome}
 use Rattle.language.specs.FileOf.{fileOf}
 use Rattle.language.specs.Legal.{Legal}
 use Rattle.language.proofs.TextLaws.{accepted-text}
-use Rattle.look.specs.Looks.{answerOf}
+use Rattle.rules.specs.Plans.{Plans}
+use Rattle.rules.specs.declared.plan.Plan.{Plan}
+use Rattle.look.specs.Looks.{answerOf, LooksAt}
 use Rattle.language.specs.LookOf.{lookOf}
 use Rattle.look.specs.declared.Answer.{Answer as Answered}
 use Rattle.look.specs.declared.Answer.the-variants.{Case, NoCase, Spent, Refused}
 use Rattle.language.proofs.WholeSearch.{first, shownAll, all-case, all-none, answered, whole-look}
 use Rattle.look.proofs.CodeLaws.{codes-few}
+use Rattle.look.proofs.LookLaws.{looks-planned}
 use Rattle.language.proofs.RealLooks.{look-of-text}
-use Rattle.language.specs.OutputOf.{noCaseFrame, refusalFrame, answerFrames, searchedAll, outcomeFrames, outputOf}
-use Rattle.report.specs.Lines.{outputRoom, Printed, Grown, CaseLined}
+use Rattle.language.specs.OutputOf.{noCaseFrame, refusalFrame, answerFrames, searchedAll, outcomeFrames, outputOf, outputRoom, Printed}
+use Rattle.report.specs.Lines.{Grown, CaseLined}
+use Rattle.report.proofs.CaseLaws.{tabled}
 use Rattle.report.proofs.LineLaws.{grown-line, grown-whole}
 
 -- ---- a look at a text from 0 to the end
@@ -113,13 +116,19 @@ module _ (text : List ℕ) (count : ℕ) (work inst : List ℤ) (x : Answer) (w 
   spent next c (Outcome.accepted F) e =
       answered F x (ap answerIn (accepted-all F e)) (λ t. absurd (omega (arith, ap numberOf c, t))) (λ t. absurd (omega (arith, ap numberOf c, t)))
 
-  pub said : Said text x i
+  said : Said text x i
   said = record {
     case = λ k c. found k c (fileOf text) refl;
     none = λ c. none c (fileOf text) refl;
     refused = λ n l c. refused n l c (fileOf text) refl;
     spent = λ next c. spent next c (fileOf text) refl;
   }
+
+-- by a look at the text's plan
+pub said-planned : (text : List ℕ) {p : Plan} {count : ℕ} {work inst : List ℤ} {a : Answered} {w i : List ℤ} → 16777216 ≤ count → workSize ≤ length work
+    → 512 ≤ length inst → Plans (fileOf text) p → LooksAt p 0 count work inst a w i → Said text (answerOf a) i
+said-planned text {count = count} {work} {inst} {a} {w} {i} many whole room P L =
+    said text count work inst (answerOf a) w i many whole room (looks-planned text L P)
 
 -- ---- the output
 
@@ -138,10 +147,11 @@ module _ (text out : List ℕ) where
   printed-line {f} h e n w = printed h e (grown-line w (omega (arith, length-line f, n, h)))
 
   module _ {a : Answered} {inst : List ℤ} {out′ : List ℕ} {r : ℕ} (h : outputRoom ≤ length out) (S : Said text (answerOf a) inst) where
-    pub printed-case : {k : ℕ} → a ≡ Case k → CaseLined text k inst out r out′ → Printed text out r out′
-    printed-case {k} e L =
+    pub printed-case : (p : Plan) {k : ℕ} → a ≡ Case k → Plans (fileOf text) p → CaseLined (p .shape) (p .tables) k inst out r out′ → Printed text out r out′
+    printed-case p {k} e P L =
         let C = S .case k (ap answerOf e) in
-        printed h (ap outcomeFrames (C .accepted) ∙ ap (answerFrames (C .file)) (C .answer)) (L .lined (C .file) (C .accepted) (C .room) (C .shows) h)
+        printed h (ap outcomeFrames (C .accepted) ∙ ap (answerFrames (C .file)) (C .answer))
+        (L .lined (C .file) (tabled text p P (C .file) k (C .accepted) (C .room) (C .shows)) h)
 
     pub printed-none : a ≡ NoCase → Written noCaseFrame 0 out r out′ → Printed text out r out′
     printed-none e w = printed-line h (S .none (ap answerOf e)) (omega arith) w

@@ -1,9 +1,7 @@
 -- What the functions of this crate leave in a lent buffer. Assumes nothing: these are definitions.
 use mathlib.Core.Path.{_≡_}
-use mathlib.Core.Bool.{cond}
 use mathlib.Core.List.{List, [], _∷_, _++_, map}
 use Prim.Native.Nat.{ℕ, _+_, _*_, _≤_, _<_}
-use lib.Dec.{ltb}
 use lib.IntN.{ℤ}
 use lib.ListN.{length, take, drop}
 use Rattle.value.specs.Value.{Value, shown}
@@ -12,19 +10,8 @@ use Rattle.meaning.specs.Candidates.{cellCount, cut, cells}
 use Rattle.meaning.specs.Look.{Answer}
 use Rattle.text.specs.Text.{textOf}
 use Rattle.bounds.specs.Catalog.{widthAt, boundAt}
-use Rattle.language.specs.Check.{Outcome}
-use Rattle.language.specs.FileOf.{fileOf}
 use Rattle.language.specs.Legal.{Legal, tableAt}
-use Rattle.language.specs.OutputOf.{numberBytes, tableFrames, answerFrames, outputOf}
-
--- room for any output: a line of 11 bytes for the case, and for each of 16 tables one of at most 135, with 32 cells
-abbrev pub outputRoom : ℕ
-outputRoom = 2171
-
--- the whole output at the front of a buffer with that room, and its length; a shorter buffer is left as it is, and the answer is 0
-pub record Printed (text out : List ℕ) (r : ℕ) (out′ : List ℕ) : Type 0 where
-  pub length-is : r ≡ cond (ltb (length out) outputRoom) 0 (length (outputOf text))
-  pub left : out′ ≡ cond (ltb (length out) outputRoom) out (outputOf text ++ drop (length (outputOf text)) out)
+use Rattle.language.specs.OutputOf.{numberBytes, tableFrames, answerFrames, outputRoom}
 
 -- ---- lines one after the other
 
@@ -59,7 +46,6 @@ pub record Tabled (F : File) (vs : List Value) (shape : List ℕ) (tables : ℕ)
 pub record TablesLined (shape : List ℕ) (tables : ℕ) (cells : List ℤ) (at : ℕ) (out : List ℕ) (r : ℕ) (out′ : List ℕ) : Type 0 where
   pub lined : (F : File) (vs : List Value) → Tabled F vs shape tables cells → at + 2160 ≤ length out → Grown (tableFrames 0 (cut (F .tables) vs)) at out r out′
 
--- the lines of case k of an accepted text, whose cells these are
-pub record CaseLined (text : List ℕ) (k : ℕ) (shownCells : List ℤ) (out : List ℕ) (r : ℕ) (out′ : List ℕ) : Type 0 where
-  pub lined : (F : File) → fileOf text ≡ Outcome.accepted F → cellCount F ≤ length shownCells → take (cellCount F) shownCells ≡ map shown (cells F k)
-      → outputRoom ≤ length out → Grown (answerFrames F (Answer.case k)) 0 out r out′
+-- the lines of case k of a file, whose cells these are
+pub record CaseLined (shape : List ℕ) (tables k : ℕ) (shownCells : List ℤ) (out : List ℕ) (r : ℕ) (out′ : List ℕ) : Type 0 where
+  pub lined : (F : File) → Tabled F (cells F k) shape tables shownCells → outputRoom ≤ length out → Grown (answerFrames F (Answer.case k)) 0 out r out′

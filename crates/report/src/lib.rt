@@ -8,8 +8,8 @@ use value::integer;
 ghost use mathlib.Core.Path.{_≡_};
 ghost use Prim.Native.Nat.{_+_, _*_, _≤_};
 ghost use lib.ListN.{length};
-ghost use Rattle.language.specs.OutputOf.{caseFrame, refusalFrame};
-ghost use Rattle.report.specs.Lines.{CellsPut, TableLined, TablesLined, CaseLined, Printed};
+ghost use Rattle.language.specs.OutputOf.{caseFrame, refusalFrame, Printed};
+ghost use Rattle.report.specs.Lines.{CellsPut, TableLined, TablesLined, CaseLined};
 
 // Room for any output: a line of 11 bytes for the case, and for each of 16 tables one of at most 135, with 32 cells.
 pub const ROOM: usize = 2171;
@@ -99,15 +99,13 @@ fn refusal_frame(number: u8, line: u16) -> [u8; 4]
     [0x8f, number, (line / 256 % 256) as u8, (line % 256) as u8]
 }
 
-// The lines of a case of an accepted text.
-fn case_lines(text: &[u8], k: u64, cells: &[i16], out: &mut [u8]) -> usize
-    ensures { λ r. ⌜ CaseLined (now (text .entry)) k (now (cells .entry)) (now (out .entry)) r (now (out .exit)) ⌝ }
+// The lines of case k, whose cells these are; `shape` has the tables' sizes.
+fn case_lines(shape: &[u8], tables: u8, k: u64, cells: &[i16], out: &mut [u8]) -> usize
+    ensures { λ r. ⌜ CaseLined (now (shape .entry)) tables k (now (cells .entry)) (now (out .entry)) r (now (out .exit)) ⌝ }
 {
-    let p = plan::check(text);
-    let shape = p.shape;
     let frame = case_frame(k);
     let at = text::write_line(&frame, out, 0);
-    table_lines(&shape, p.tables, cells, out, at)
+    table_lines(shape, tables, cells, out, at)
 }
 
 // What the program prints for a text, at the front of a buffer with room for any output, and its length; 0 for a shorter buffer, which
@@ -119,11 +117,14 @@ pub fn output(text: &[u8], out: &mut [u8]) -> usize
     if out.len() < ROOM {
         return 0;
     }
+    let p = plan::check(text);
+    let shape = p.shape;
+    let tables = p.tables;
     let mut work = [0i32; look::AREA];
     let mut cells = [0i16; 512];
-    let a = look::look(text, 0, u64::MAX, &mut work, &mut cells);
+    let a = look::look_at(p, 0, u64::MAX, &mut work, &mut cells);
     match a {
-        Answer::Case(k) => case_lines(text, k, &cells, out),
+        Answer::Case(k) => case_lines(&shape, tables, k, &cells, out),
         Answer::NoCase => {
             let frame = [0x82u8];
             text::write_line(&frame, out, 0)

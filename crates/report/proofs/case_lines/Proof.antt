@@ -4,9 +4,6 @@ use Rattle.report.proofs.CaseLaws.{case-lined}
 use Rattle.report.proofs.case_lines.Statement.{statement}
 use Rattle.report.proofs.case_lines.Tie as tie
 
-check-requires : tie.Need-check-requires
-check-requires c κs = search needs
-
 case-frame-requires : tie.Need-case-frame-requires
 case-frame-requires c κs = search needs
 
@@ -16,9 +13,6 @@ slice-aggregate-write-line c = search needs
 write-line-requires : tie.Need-write-line-requires
 write-line-requires c κs = search needs
 
-slice-aggregate-table-lines : tie.Need-slice-aggregate-table-lines
-slice-aggregate-table-lines c = search needs
-
 table-lines-requires : tie.Need-table-lines-requires
 table-lines-requires c κs = search needs
 
@@ -26,17 +20,15 @@ same-length : tie.Need-same-length
 same-length c = search needs
 
 returns : tie.Need-returns
-returns c = case-lined (c .before .before .before .before .before .before .before .before .before .before .before .before .before .before .before .args .text .now) (c .before .before .before .before .before .before .before .before .before .before .before .before .check .result) (c .before .before .before .before .before .before .before .before .before .before .before .before .check .ensures) (c .before .before .before .before .before .before .before .before .before .before .case-frame .ensures) (c .before .before .before .before .before .before .before .write-line .ensures) (c .before .before .table-lines .ensures)
+returns c = case-lined (c .before .before .before .before .before .before .before .before .before .case-frame .ensures) (c .before .before .before .before .before .before .write-line .ensures) (c .before .before .table-lines .ensures)
 
 pub case-lines-spec : {M : Type 1} → statement M
 case-lines-spec =
     tie.close
     (tie.spec
-    check-requires
     case-frame-requires
     slice-aggregate-write-line
     write-line-requires
-    slice-aggregate-table-lines
     table-lines-requires
     same-length
     returns)
