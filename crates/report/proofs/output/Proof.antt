@@ -1,7 +1,8 @@
 -- `report::output` meets its contract. Assumes nothing.
 use native.Mathlib.Omega.{arith}
 use borrow.Author.Needs.{needs}
-use Rattle.report.proofs.OutputLaws.{said-planned, printed-short, printed-case, printed-none, printed-refused, printed-spent}
+use Rattle.language.proofs.PrintedLaws.{printed-short}
+use Rattle.report.proofs.OutputLaws.{said-planned, printed-case, printed-none, printed-refused, printed-spent}
 use Rattle.report.proofs.output.Statement.{statement}
 use Rattle.report.proofs.output.Tie as tie
 
