@@ -1,14 +1,15 @@
 -- What an accepted outcome says.
 --     accepted-candidates    N is at most 2^24
 --     accepted-wellFormed    the file is one that the theorems of meaning are about
---     accepted-legal         of frames of bytes: the file is legal
+--     drafted                of frames of bytes: the draft is legal, and they are its frames
+--     accepted-legal         the file is legal
 --     accepted-written       and the frames are those of the file
 -- Assumes nothing.
 use mathlib.Core.Path.{_≡_, refl, sym, ap, subst, _∙_}
 use mathlib.Core.Bool.{Bool, true}
 use mathlib.Core.List.{List, [], _∷_, _++_, map, map-append, append-assoc, append-nil}
 use mathlib.Core.Option.{Option, none, some}
-use Prim.Native.Nat.{ℕ, suc, _≤_}
+use Prim.Native.Nat.{ℕ, _≤_}
 use borrow.Author.Tests.{lt-ltb}
 use Rattle.value.specs.Bag.{All}
 use Rattle.value.proofs.Decides.{and-both}
@@ -19,11 +20,11 @@ use Rattle.meaning.specs.Candidates.{candidates}
 use Rattle.meaning.proofs.Elements.{all-given}
 use Rattle.language.proofs.Readers.{Byte}
 use Rattle.language.specs.Draft.{Draft, Item, empty, added, fileAt}
-use Rattle.language.specs.Check.{Outcome, candidateLimit, finished, checkFrames, checkAll}
+use Rattle.language.specs.Check.{Outcome, Reached, candidateLimit, reach, checkAll}
 use Rattle.language.specs.Legal.{LegalTable, LegalKey, LegalView, EveryView, Legal}
 use Rattle.language.specs.Written.{tableBytes, keyBytes, viewBytes, goalBytes, fileFrames}
 use Rattle.language.proofs.FairFrames.{all-true}
-use Rattle.language.proofs.Folds.{first-taken, none-left, fold-kept, Ended, finished-file, Kept, kept-empty, Obeys, kept-step}
+use Rattle.language.proofs.Folds.{fold-kept, Ended, accepted-came, Kept, kept-empty, Obeys, kept-step}
 use Rattle.language.proofs.Steps.{ViewRules, Lawful, Taken, step-bytes}
 use Rattle.language.proofs.Turns.{itemBytes, Turn}
 
@@ -49,13 +50,16 @@ well-obeys d f (Item.view x) t = record { names = t .well; rules = t .whole }
 well-obeys d f (Item.goal x) t = t .well
 
 module _ (fs : List (List ℕ)) (F : File) (a : checkAll fs ≡ Outcome.accepted F) where
-  well-end : (d : Draft) × WellDraft d × (finished d (d .goal) ≡ Outcome.accepted F)
+  well-end : (d : Draft) × WellDraft d × Ended d F
   well-end =
-      fold-kept (λ f. Unit {0}) WellDraft (λ d f i _ t k. kept-step WellTable WellKey WellView d i k (t .turn) (well-obeys d f i t))
-      fs empty 1 F (all-given (λ f. tt) fs) (kept-empty WellTable WellKey WellView) a
+      let (d, q, n) = accepted-came fs F a in
+      let k : WellDraft d = fold-kept (λ f. Unit {0}) (λ d _. WellDraft d)
+      (λ d f i _ _ t k. kept-step WellTable WellKey WellView d i k (t .turn) (well-obeys d f i t))
+      fs empty 1 [] d (all-given (λ f. tt) fs) (kept-empty WellTable WellKey WellView) q in
+      (d, k, n)
 
   pub accepted-candidates : candidates F ≤ candidateLimit
-  accepted-candidates = let (d, k, e) = well-end in finished-file d F e .number
+  accepted-candidates = let (d, k, n) = well-end in n .number
 
 every-true : {P : List Schema → View → Type 0} (p : List Schema → View → Bool) → ((ss : List Schema) (q : View) → P ss q → p ss q ≡ true)
     → {qs : List View} {ss : List Schema} → EveryView P qs ss → stackAll viewSchema p qs ss ≡ true
@@ -75,8 +79,7 @@ well-file d g k e =
 
 pub accepted-wellFormed : (fs : List (List ℕ)) (F : File) → checkAll fs ≡ Outcome.accepted F → wellFormed F ≡ true
 accepted-wellFormed fs F a =
-    let (d, k, e) = well-end fs F a in
-    let n = finished-file d F e in
+    let (d, k, n) = well-end fs F a in
     subst (λ (G : File). wellFormed G ≡ true) (n .file) (well-file d (n .goal) k (n .named))
 
 -- ---- of bytes
@@ -102,14 +105,6 @@ legal-file d g k e n =
       number = n;
     }
 
-pub accepted-legal : (fs : List (List ℕ)) (F : File) → All (All Byte) fs → checkAll fs ≡ Outcome.accepted F → Legal F
-accepted-legal fs F all a =
-    let (d, k, e) = fold-kept (All Byte) LegalDraft
-    (λ d f i b t k. kept-step LegalTable LegalKey LegalView d i k (t .turn) (lawful-obeys d i (step-bytes d f i b t .1)))
-    fs empty 1 F all (kept-empty LegalTable LegalKey LegalView) a in
-    let n = finished-file d F e in
-    subst Legal (n .file) (legal-file d (n .goal) k (n .named) (subst (λ (G : File). candidates G ≤ candidateLimit) (sym (n .file)) (n .number)))
-
 -- ---- the frames of a draft
 
 abbrev pub goalFrames : Option Goal → List (List ℕ)
@@ -126,17 +121,36 @@ frames-added d (Item.key k) u = rw (u .views, u .goal) (simp (map-append, append
 frames-added d (Item.view q) u = rw (u .goal) (simp (map-append, append-nil, append-assoc))
 frames-added d (Item.goal g) u = rw u (simp (append-nil))
 
-frames-ended : (d : Draft) (F : File) → Ended d F → draftFrames d ++ [] ≡ fileFrames F
+-- those of a draft with its goal are those of the file
+pub draft-file : (d : Draft) (g : Goal) → d .goal ≡ some g → draftFrames d ≡ fileFrames (fileAt d g)
 unfolding fileFrames
-frames-ended d F n = append-nil (draftFrames d) ∙ rw (n .named) (ap fileFrames (n .file))
+draft-file d g e = rw e
 
-written : (fs : List (List ℕ)) (d : Draft) (l : ℕ) (F : File) → All (All Byte) fs → checkFrames fs d l ≡ Outcome.accepted F → draftFrames d ++ fs ≡ fileFrames F
-written [] d l F all a = frames-ended d F (finished-file d F (sym (none-left d l) ∙ a))
-written (f ∷ fs) d l F (All.cons b bs) a =
-    let (i, t, more) = first-taken f fs d l F a in
-    let e = step-bytes d f i b t .0 in
-    ap (λ (g : List ℕ). draftFrames d ++ (g ∷ fs)) e ∙ sym (append-assoc (draftFrames d) (itemBytes i ∷ []) fs)
-    ∙ ap (λ (gs : List (List ℕ)). gs ++ fs) (sym (frames-added d i (t .turn))) ∙ written fs (added d i) (suc l) F bs more
+-- a legal draft, and its frames
+pub record Drafted (d : Draft) (fs : List (List ℕ)) : Type 0 where
+  pub legal : LegalDraft d
+  pub frames : fs ≡ draftFrames d
 
-pub accepted-written : (fs : List (List ℕ)) (F : File) → All (All Byte) fs → checkAll fs ≡ Outcome.accepted F → fs ≡ fileFrames F
-accepted-written fs F all a = written fs empty 1 F all a
+drafted-on : (d : Draft) (f : List ℕ) (i : Item) (before : List (List ℕ)) → All Byte f → Taken d f i → Drafted d before → Drafted (added d i) (before ++ (f ∷ []))
+drafted-on d f i before b t w =
+    let (is, lawful) = step-bytes d f i b t in
+    record {
+      legal = kept-step LegalTable LegalKey LegalView d i (w .legal) (t .turn) (lawful-obeys d i lawful);
+      frames = ap (λ (x : List (List ℕ)). x ++ (f ∷ [])) (w .frames) ∙ ap (λ (x : List ℕ). draftFrames d ++ (x ∷ [])) is ∙ sym (frames-added d i (t .turn));
+    }
+
+pub drafted : (fs : List (List ℕ)) (d : Draft) → All (All Byte) fs → reach fs empty 1 ≡ Reached.came d → Drafted d fs
+drafted fs d all q =
+    fold-kept (All Byte) Drafted drafted-on fs empty 1 [] d all (record { legal = kept-empty LegalTable LegalKey LegalView; frames = refl }) q
+
+module _ (fs : List (List ℕ)) (F : File) (all : All (All Byte) fs) (a : checkAll fs ≡ Outcome.accepted F) where
+  pub accepted-legal : Legal F
+  accepted-legal =
+      let (d, q, n) = accepted-came fs F a in
+      subst Legal (n .file)
+      (legal-file d (n .goal) (drafted fs d all q .legal) (n .named) (subst (λ (G : File). candidates G ≤ candidateLimit) (sym (n .file)) (n .number)))
+
+  pub accepted-written : fs ≡ fileFrames F
+  accepted-written =
+      let (d, q, n) = accepted-came fs F a in
+      drafted fs d all q .frames ∙ draft-file d (n .goal) (n .named) ∙ ap fileFrames (n .file)

@@ -9,7 +9,7 @@ use Rattle.value.specs.Value.{size}
 use Rattle.language.specs.Prefix.{encodeE, encodeC}
 use Rattle.language.specs.Reading.{deepE, deepC, readE, readC}
 use Rattle.meaning.specs.Candidates.{candidates}
-use Rattle.language.specs.Check.{Outcome, checkFrame, checkFrames}
+use Rattle.language.specs.Check.{Outcome, checkFrame, reach}
 use Rattle.language.specs.Written.{tableBytes, viewBytes, goalBytes, fileFrames}
 
 abbrev program : List ℕ
@@ -28,6 +28,6 @@ rewritten (Outcome.refused n l) = []
 rewritten (Outcome.accepted F) = fileText F
 
 program-written : rewritten (fileOf program) ≡ program
-unfolding fileOf framesOf linesOf run step digit textOf line hex hexDigit checkFrames checkFrame readE readC deepE deepC candidates size signedOf minZ maxZ
+unfolding fileOf framesOf linesOf run step digit textOf line hex hexDigit reach checkFrame readE readC deepE deepC candidates size signedOf minZ maxZ
     bitsOf tableBytes viewBytes goalBytes fileFrames encodeE encodeC
 program-written = refl

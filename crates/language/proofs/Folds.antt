@@ -1,11 +1,11 @@
 -- Frames in turn: what each frame that is taken keeps, and what an accepted outcome says of the last draft.
 --     fold-kept        what every frame keeps holds at the end
 --     kept-step        a draft of lawful items stays one
---     finished-file    the file of a draft with a goal
+--     accepted-came    accepted frames come to a draft, which has the file
 -- Assumes nothing.
-use mathlib.Core.Path.{_≡_, refl, sym, subst, _∙_}
+use mathlib.Core.Path.{_≡_, refl, sym, subst, subst₂}
 use mathlib.Core.Bool.{cond}
-use mathlib.Core.List.{List, [], _∷_, _++_, map}
+use mathlib.Core.List.{List, [], _∷_, _++_, map, append-assoc, append-nil}
 use mathlib.Core.Option.{Option, none, some}
 use Prim.Native.Nat.{ℕ, suc, _≤_}
 use native.Mathlib.Omega.{arith}
@@ -21,36 +21,36 @@ use Rattle.meaning.specs.Candidates.{candidates}
 use Rattle.meaning.proofs.Elements.{all-append}
 use Rattle.meaning.proofs.Stacks.{length-snoc}
 use Rattle.language.specs.Draft.{Draft, Item, empty, added, fileAt, relationCount, schemasOf}
-use Rattle.language.specs.Check.{Outcome, Checked, candidateLimit, finished, onward, checkFrames}
+use Rattle.language.specs.Check.{Outcome, Checked, Reached, candidateLimit, finished, onward, reach, concluded, checkAll}
 use Rattle.language.specs.Legal.{NamesView, EveryView}
 use Rattle.language.proofs.Steps.{Taken, Looked, looked}
 use Rattle.language.proofs.Turns.{Turn}
 
--- ---- accepted outcomes
+-- ---- frames in turn
 
 module _ {d : Draft} {f : List ℕ} where
-  onward-accepted : {c : Checked} (more : Draft → Outcome) (l : ℕ) (F : File) → Looked d f c → onward more l c ≡ Outcome.accepted F
-      → (i : Item) × Taken d f i × (more (added d i) ≡ Outcome.accepted F)
-  onward-accepted more l F (Looked.fault h k) e = let z : _≡_ {A = ℕ} 0 1 = cc in absurd (omega arith)
-  onward-accepted more l F (Looked.next {i} t) e = (i, t, e)
+  onward-came : {c : Checked} (further : Draft → Reached) (l : ℕ) (e : Draft) → Looked d f c → onward further l c ≡ Reached.came e
+      → (i : Item) × Taken d f i × (further (added d i) ≡ Reached.came e)
+  onward-came further l e (Looked.fault h k) q = let z : _≡_ {A = ℕ} 0 1 = cc in absurd (omega arith)
+  onward-came further l e (Looked.next {i} t) q = (i, t, q)
 
 -- the first frame is taken, and the others go on from there
-pub first-taken : (f : List ℕ) (fs : List (List ℕ)) (d : Draft) (l : ℕ) (F : File) → checkFrames (f ∷ fs) d l ≡ Outcome.accepted F
-    → (i : Item) × Taken d f i × (checkFrames fs (added d i) (suc l) ≡ Outcome.accepted F)
-unfolding checkFrames
-first-taken f fs d l F e = onward-accepted (λ e. checkFrames fs e (suc l)) l F (looked d f) e
+first-taken : (f : List ℕ) (fs : List (List ℕ)) (d : Draft) (l : ℕ) (e : Draft) → reach (f ∷ fs) d l ≡ Reached.came e
+    → (i : Item) × Taken d f i × (reach fs (added d i) (suc l) ≡ Reached.came e)
+unfolding reach
+first-taken f fs d l e q = onward-came (λ x. reach fs x (suc l)) l e (looked d f) q
 
-pub none-left : (d : Draft) (l : ℕ) → checkFrames [] d l ≡ finished d (d .goal)
-unfolding checkFrames
-none-left d l = refl
-
-pub fold-kept : (Q : List ℕ → Type 0) (Inv : Draft → Type 0) → ((d : Draft) (f : List ℕ) (i : Item) → Q f → Taken d f i → Inv d → Inv (added d i))
-    → (fs : List (List ℕ)) (d : Draft) (l : ℕ) (F : File) → All Q fs → Inv d → checkFrames fs d l ≡ Outcome.accepted F
-    → (e : Draft) × Inv e × (finished e (e .goal) ≡ Outcome.accepted F)
-fold-kept Q Inv step [] d l F qs inv a = (d, inv, sym (none-left d l) ∙ a)
-fold-kept Q Inv step (f ∷ fs) d l F (All.cons q qs) inv a =
-    let (i, t, more) = first-taken f fs d l F a in
-    fold-kept Q Inv step fs (added d i) (suc l) F qs (step d f i q t inv) more
+-- of a draft and the frames that gave it
+pub fold-kept : (Q : List ℕ → Type 0) (Inv : Draft → List (List ℕ) → Type 0)
+    → ((d : Draft) (f : List ℕ) (i : Item) (before : List (List ℕ)) → Q f → Taken d f i → Inv d before → Inv (added d i) (before ++ (f ∷ [])))
+    → (fs : List (List ℕ)) (d : Draft) (l : ℕ) (before : List (List ℕ)) (e : Draft) → All Q fs → Inv d before → reach fs d l ≡ Reached.came e
+    → Inv e (before ++ fs)
+unfolding reach
+fold-kept Q Inv step [] d l before e qs inv q = let p : d ≡ e = cc in subst₂ Inv p (sym (append-nil before)) inv
+fold-kept Q Inv step (f ∷ fs) d l before e (All.cons h hs) inv q =
+    let (i, t, more) = first-taken f fs d l e q in
+    subst (Inv e) (append-assoc before (f ∷ []) fs)
+    (fold-kept Q Inv step fs (added d i) (suc l) (before ++ (f ∷ [])) e hs (step d f i before h t inv) more)
 
 -- ---- the file at the end
 
@@ -74,8 +74,13 @@ finished-at d F (some g) p e =
     let h = limit-passed (fileAt d g) F e in
     record { goal = g; named = p; file = h .0; number = h .1 }
 
-pub finished-file : (d : Draft) (F : File) → finished d (d .goal) ≡ Outcome.accepted F → Ended d F
-finished-file d F e = finished-at d F (d .goal) refl e
+-- accepted frames come to a draft, which has the file
+pub accepted-came : (fs : List (List ℕ)) (F : File) → checkAll fs ≡ Outcome.accepted F → (d : Draft) × (reach fs empty 1 ≡ Reached.came d) × Ended d F
+accepted-came fs F e = go (reach fs empty 1) refl e
+  where
+    go : (x : Reached) → reach fs empty 1 ≡ x → concluded x ≡ Outcome.accepted F → (d : Draft) × (reach fs empty 1 ≡ Reached.came d) × Ended d F
+    go (Reached.stopped n l) q a = let z : _≡_ {A = ℕ} 0 1 = cc in absurd (omega arith)
+    go (Reached.came d) q a = (d, q, finished-at d F (d .goal) refl a)
 
 -- ---- what frames keep
 

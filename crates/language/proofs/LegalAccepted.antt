@@ -22,7 +22,7 @@ use Rattle.meaning.specs.Candidates.{candidates}
 use Rattle.language.proofs.Readers.{Byte}
 use Rattle.meaning.proofs.Stacks.{length-snoc, stack-append}
 use Rattle.language.specs.Draft.{Draft, Item, added, relationCount, stage}
-use Rattle.language.specs.Check.{Outcome, Checked, candidateLimit, checkFrame, checkFrames, checkAll}
+use Rattle.language.specs.Check.{Outcome, Checked, candidateLimit, checkFrame, reach, concluded, checkAll}
 use Rattle.language.specs.Legal.{LegalTable, LegalKey, LegalView, EveryView, Legal}
 use Rattle.language.specs.Written.{tableBytes, keyBytes, viewBytes, goalBytes, fileFrames}
 use Rattle.language.proofs.Accepted.{accepted-wellFormed, accepted-legal, accepted-written}
@@ -32,10 +32,10 @@ use Rattle.language.proofs.Turns.{draft, stage-keys, stage-views}
 
 -- from this draft the frames are accepted as F, whatever line they begin at
 abbrev Accepts : List (List ℕ) → Draft → File → Type 0
-Accepts fs d F = (l : ℕ) → checkFrames fs d l ≡ Outcome.accepted F
+Accepts fs d F = (l : ℕ) → concluded (reach fs d l) ≡ Outcome.accepted F
 
 next-frame : (f : List ℕ) (fs : List (List ℕ)) (d e : Draft) (F : File) → checkFrame d f ≡ Checked.next e → Accepts fs e F → Accepts (f ∷ fs) d F
-unfolding checkFrames
+unfolding reach
 next-frame f fs d e F s a l = rw s (a (suc l))
 
 module _ (rest : List (List ℕ)) (F : File) where
@@ -67,7 +67,7 @@ module _ (rest : List (List ℕ)) (F : File) where
       (views-run ts ks us (qs ++ (u ∷ [])) (rw (stack-append viewSchema qs (u ∷ []) (map tableSchema ts)) hs) (omega (arith, length-snoc qs u)) (rw (append-snoc qs u us) a))
 
 goal-run : (F : File) → Legal F → Accepts (goalBytes (F .goal) ∷ []) (draft (F .tables) (F .keys) (F .views) none) F
-unfolding checkFrames
+unfolding reach
 goal-run F h =
     let d = draft (F .tables) (F .keys) (F .views) none in
     let s : stage d ≤ 4 = omega (arith, stage-views (F .tables) (F .keys) (F .views)) in

@@ -22,6 +22,7 @@ pub mod Examples
 pub mod RealLooks
 -- the program's output, and what is read back from it
 pub mod WholeSearch
+pub mod PrintedLaws
 pub mod ReadBack
 pub mod Program
 pub mod InputLaws

@@ -21,7 +21,7 @@ use Rattle.meaning.specs.Candidates.{candidates}
 use Rattle.text.specs.Text.{Lines, Gives}
 use Rattle.text.proofs.Complete.{gives, gives-only, wrong-few, frames-few}
 use Rattle.language.specs.Draft.{Draft, empty, fileAt}
-use Rattle.language.specs.Check.{Outcome, Checked, candidateLimit, finished, onward, checkFrames, checkAll}
+use Rattle.language.specs.Check.{Outcome, Checked, Reached, candidateLimit, finished, onward, reach, concluded, checkAll}
 use Rattle.language.specs.FileOf.{fileOf, outcomeOf}
 use Rattle.language.specs.Legal.{Limits}
 use Rattle.language.specs.Refused.{Fault, Sound, Reaches, Refused}
@@ -29,66 +29,66 @@ use Rattle.language.proofs.Steps.{Looked, looked, fault-limits, fault-c
 
 -- ---- frames in turn, with the lines counted from l
 
-data Ends (d : Draft) (l : ℕ) (fs : List (List ℕ)) : Outcome → Type 0 where
+data Ends (d : Draft) (l : ℕ) (fs : List (List ℕ)) : Reached → Type 0 where
   in-frame : (before after : List (List ℕ)) {f : List ℕ} {e : Draft} {n : ℕ} (m : ℕ) → fs ≡ before ++ (f ∷ after) → Reaches d before e → Fault e f n
-      → m ≡ length before + l → Ends d l fs (Outcome.refused n m)
-  no-goal : {e : Draft} → Reaches d fs e → e .goal ≡ none → Ends d l fs (Outcome.refused 3 0)
-  too-many : {e : Draft} {g : Goal} → Reaches d fs e → e .goal ≡ some g → candidateLimit < candidates (fileAt e g) → Ends d l fs (Outcome.refused 10 0)
-  accepted : {F : File} → Ends d l fs (Outcome.accepted F)
+      → m ≡ length before + l → Ends d l fs (Reached.stopped n m)
+  whole : {e : Draft} → Reaches d fs e → Ends d l fs (Reached.came e)
 
-ends-finished : (d : Draft) (l : ℕ) (o : Option Goal) → d .goal ≡ o → Ends d l [] (finished d o)
-ends-finished d l none p = Ends.no-goal Reaches.here p
-ends-finished d l (some g) p =
-    by-test (leb (candidates (fileAt d g)) candidateLimit)
-    (λ t. rw t Ends.accepted)
-    (λ t. rw t (Ends.too-many Reaches.here p (leb-false (candidates (fileAt d g)) candidateLimit t)))
-
-ends-later : {d e : Draft} {l : ℕ} {f : List ℕ} {fs : List (List ℕ)} {o : Outcome} → Sound d f e → Ends e (suc l) fs o → Ends d l (f ∷ fs) o
+ends-later : {d e : Draft} {l : ℕ} {f : List ℕ} {fs : List (List ℕ)} {x : Reached} → Sound d f e → Ends e (suc l) fs x → Ends d l (f ∷ fs) x
 ends-later {f = f} s (Ends.in-frame before after m cut r h q) =
     Ends.in-frame (f ∷ before) after m (ap (λ (gs : List (List ℕ)). f ∷ gs) cut) (Reaches.next s r) h (omega arith)
-ends-later s (Ends.no-goal r p) = Ends.no-goal (Reaches.next s r) p
-ends-later s (Ends.too-many r p q) = Ends.too-many (Reaches.next s r) p q
-ends-later s Ends.accepted = Ends.accepted
+ends-later s (Ends.whole r) = Ends.whole (Reaches.next s r)
 
-ends-onward : {d : Draft} {f : List ℕ} {c : Checked} {fs : List (List ℕ)} (more : Draft → Outcome) (l : ℕ) → 1 ≤ length f → Looked d f c
-    → ((e : Draft) → Ends e (suc l) fs (more e)) → Ends d l (f ∷ fs) (onward more l c)
-ends-onward {fs = fs} more l full (Looked.fault h k) p = Ends.in-frame [] fs l refl Reaches.here (k full) (omega arith)
-ends-onward more l full (Looked.next {i} t) p = ends-later (t .sound) (p _)
+ends-onward : {d : Draft} {f : List ℕ} {c : Checked} {fs : List (List ℕ)} (further : Draft → Reached) (l : ℕ) → 1 ≤ length f → Looked d f c
+    → ((e : Draft) → Ends e (suc l) fs (further e)) → Ends d l (f ∷ fs) (onward further l c)
+ends-onward {fs = fs} further l full (Looked.fault h k) p = Ends.in-frame [] fs l refl Reaches.here (k full) (omega arith)
+ends-onward further l full (Looked.next {i} t) p = ends-later (t .sound) (p _)
 
-ends : {fs : List (List ℕ)} → All (λ f. 1 ≤ length f) fs → (d : Draft) (l : ℕ) → Ends d l fs (checkFrames fs d l)
-unfolding checkFrames
-ends All.nil d l = ends-finished d l (d .goal) refl
-ends (All.cons {x = f} {xs = fs} h hs) d l = ends-onward (λ e. checkFrames fs e (suc l)) l h (looked d f) (λ e. ends hs e (suc l))
+ends : {fs : List (List ℕ)} → All (λ f. 1 ≤ length f) fs → (d : Draft) (l : ℕ) → Ends d l fs (reach fs d l)
+unfolding reach
+ends All.nil d l = Ends.whole Reaches.here
+ends (All.cons {x = f} {xs = fs} h hs) d l = ends-onward (λ e. reach fs e (suc l)) l h (looked d f) (λ e. ends hs e (suc l))
 
 -- frames without a fault lead on
 passed : {d e : Draft} {before : List (List ℕ)} → Reaches d before e → (rest : List (List ℕ)) (l m : ℕ) → length before + l ≡ m
-    → checkFrames (before ++ rest) d l ≡ checkFrames rest e m
-unfolding checkFrames
-passed {d = d} Reaches.here rest l m q = let p : l ≡ m = omega arith in ap (checkFrames rest d) p
+    → reach (before ++ rest) d l ≡ reach rest e m
+unfolding reach
+passed {d = d} Reaches.here rest l m q = let p : l ≡ m = omega arith in ap (reach rest d) p
 passed (Reaches.next {d = d} s r) rest l m q = rw (sound-checked d s) (passed r rest (suc l) m (omega arith))
 
 -- a fault stops
-stopped : {d : Draft} {f : List ℕ} {n : ℕ} → Fault d f n → (after : List (List ℕ)) (l : ℕ) → checkFrames (f ∷ after) d l ≡ Outcome.refused n l
-unfolding checkFrames
+stopped : {d : Draft} {f : List ℕ} {n : ℕ} → Fault d f n → (after : List (List ℕ)) (l : ℕ) → reach (f ∷ after) d l ≡ Reached.stopped n l
+unfolding reach
 stopped {d = d} h after l = rw (fault-checked d h)
 
 -- the end of the frames
 module _ {d : Draft} {fs : List (List ℕ)} (r : Reaches empty fs d) where
+  all-passed : reach fs empty 1 ≡ Reached.came d
+  unfolding reach
+  all-passed = ap (λ (gs : List (List ℕ)). reach gs empty 1) (sym (append-nil fs)) ∙ passed r [] 1 (length fs + 1) refl
+
   finishes : (o : Option Goal) → d .goal ≡ o → checkAll fs ≡ finished d o
-  unfolding checkFrames
-  finishes o p = ap (λ (gs : List (List ℕ)). checkFrames gs empty 1) (sym (append-nil fs)) ∙ passed r [] 1 (length fs + 1) refl ∙ ap (finished d) p
+  finishes o p = ap concluded all-passed ∙ ap (finished d) p
 
 -- ---- texts
 
 module _ (text : List ℕ) where
-  from-ends : {fs : List (List ℕ)} {n l : ℕ} {o : Outcome} → Gives text (Lines.frames fs) → Ends empty 1 fs o → o ≡ Outcome.refused n l → Refused text n l
+  from-finished : {fs : List (List ℕ)} {d : Draft} {n l : ℕ} (o : Option Goal) → Gives text (Lines.frames fs) → Reaches empty fs d → d .goal ≡ o
+      → finished d o ≡ Outcome.refused n l → Refused text n l
+  from-finished {n = n} {l = l} none g r p e = let a : 3 ≡ n = cc in let b : 0 ≡ l = cc in subst₂ (Refused text) a b (Refused.no-goal g r p)
+  from-finished {d = d} {n = n} {l = l} (some goal) g r p e = by-test (leb (candidates (fileAt d goal)) candidateLimit)
+      (λ t. let q : Outcome.accepted (fileAt d goal) ≡ Outcome.refused n l = rw t at e in let z : _≡_ {A = ℕ} 0 1 = cc in absurd (omega arith))
+      (λ t. let q : Outcome.refused 10 0 ≡ Outcome.refused n l = rw t at e in
+      let a : 10 ≡ n = cc in
+      let b : 0 ≡ l = cc in
+      subst₂ (Refused text) a b (Refused.too-many g r p (leb-false (candidates (fileAt d goal)) candidateLimit t)))
+
+  from-ends : {fs : List (List ℕ)} {n l : ℕ} {x : Reached} → Gives text (Lines.frames fs) → Ends empty 1 fs x → concluded x ≡ Outcome.refused n l → Refused text n l
   from-ends {n = n} {l = l} g (Ends.in-frame before after {n = n′} m cut r h q) e =
       let p : n′ ≡ n = cc in
       let place : length before + 1 ≡ l = cc in
       subst₂ (Refused text) p place (Refused.in-frame before after (subst (λ (gs : List (List ℕ)). Gives text (Lines.frames gs)) cut g) r h)
-  from-ends {n = n} {l = l} g (Ends.no-goal r p) e = let a : 3 ≡ n = cc in let b : 0 ≡ l = cc in subst₂ (Refused text) a b (Refused.no-goal g r p)
-  from-ends {n = n} {l = l} g (Ends.too-many r p q) e = let a : 10 ≡ n = cc in let b : 0 ≡ l = cc in subst₂ (Refused text) a b (Refused.too-many g r p q)
-  from-ends g Ends.accepted e = let z : _≡_ {A = ℕ} 0 1 = cc in absurd (omega arith)
+  from-ends g (Ends.whole {e = d} r) e = from-finished (d .goal) g r refl e
 
   refused-of : {lines : Lines} {n l : ℕ} → Gives text lines → outcomeOf lines ≡ Outcome.refused n l → Refused text n l
   refused-of {lines = Lines.frames fs} (Gives.accepted t good one few) e =
@@ -105,7 +105,7 @@ module _ (text : List ℕ) where
   refused-so : {n l : ℕ} → Refused text n l → fileOf text ≡ Outcome.refused n l
   refused-so (Refused.in-text g) = lines-are g
   refused-so (Refused.in-frame before after {f} g r h) =
-      lines-are g ∙ passed r (f ∷ after) 1 (length before + 1) refl ∙ stopped h after (length before + 1)
+      lines-are g ∙ ap concluded (passed r (f ∷ after) 1 (length before + 1) refl ∙ stopped h after (length before + 1))
   refused-so (Refused.no-goal g r p) = lines-are g ∙ finishes r none p
   refused-so (Refused.too-many {d = d} {g = goal} g r p q) =
       lines-are g ∙ finishes r (some goal) p ∙ rw (lt-leb (candidates (fileAt d goal)) candidateLimit q)

@@ -17,7 +17,7 @@ use Rattle.meaning.specs.Bounds.{sameWidth, aggregatesFit, bounded, rangesFit}
 use Rattle.meaning.specs.Candidates.{candidates}
 use Rattle.language.specs.Draft.{Draft, Item, empty, added, fileAt, schemasOf, inOrder, hasRoom}
 use Rattle.language.specs.Frames.{frame, wholeFault}
-use Rattle.language.specs.Check.{Outcome, Checked, candidateLimit, finished, onward, readChecked, checkFrame, checkFrames}
+use Rattle.language.specs.Check.{Outcome, Checked, Reached, candidateLimit, finished, onward, readChecked, checkFrame, reach, concluded}
 use Rattle.language.specs.FileOf.{fileOf, outcomeOf}
 use Rattle.language.specs.Refused.{Refused}
 use Rattle.language.proofs.Refusals.{refused-when}
@@ -41,19 +41,23 @@ module _ (whole : Draft → Item → ℕ) (end : Draft → Option Goal → Outco
   frameBy d [] = Checked.fault 4
   frameBy d (kind ∷ bs) = cond (inOrder d kind) (cond (hasRoom d kind) (readBy d (frame d kind bs)) (Checked.fault 5)) (Checked.fault 3)
 
-  abbrev framesBy : List (List ℕ) → Draft → ℕ → Outcome
-  framesBy [] d line = end d (d .goal)
-  framesBy (f ∷ fs) d line = onward (λ e. framesBy fs e (suc line)) line (frameBy d f)
+  abbrev reachBy : List (List ℕ) → Draft → ℕ → Reached
+  reachBy [] d line = Reached.came d
+  reachBy (f ∷ fs) d line = onward (λ e. reachBy fs e (suc line)) line (frameBy d f)
+
+  abbrev concludedBy : Reached → Outcome
+  concludedBy (Reached.stopped n line) = Outcome.refused n line
+  concludedBy (Reached.came d) = end d (d .goal)
 
   abbrev linesBy : Lines → Outcome
-  linesBy (Lines.frames fs) = framesBy fs empty 1
+  linesBy (Lines.frames fs) = concludedBy (reachBy fs empty 1)
   linesBy (Lines.refused n k) = Outcome.refused n k
 
   abbrev checkBy : List ℕ → Outcome
   checkBy text = linesBy (framesOf text)
 
 -- with the right rules and the right end it is the right one
-onward-same : {more then : Draft → Outcome} (l : ℕ) (c : Checked) → ((d : Draft) → more d ≡ then d) → onward more l c ≡ onward then l c
+onward-same : {more then : Draft → Reached} (l : ℕ) (c : Checked) → ((d : Draft) → more d ≡ then d) → onward more l c ≡ onward then l c
 onward-same l (Checked.fault n) h = refl
 onward-same l (Checked.next d) h = h d
 
@@ -66,15 +70,19 @@ unfolding checkFrame
 frame-same d [] = refl
 frame-same d (k ∷ bs) = rw (read-same d (frame d k bs))
 
-frames-same : (fs : List (List ℕ)) (d : Draft) (l : ℕ) → framesBy wholeFault finished fs d l ≡ checkFrames fs d l
-unfolding checkFrames
-frames-same [] d l = refl
-frames-same (f ∷ fs) d l =
-    onward-same l (frameBy wholeFault finished d f) (λ e. frames-same fs e (suc l))
-    ∙ ap (onward (λ e. checkFrames fs e (suc l)) l) (frame-same d f)
+reach-same : (fs : List (List ℕ)) (d : Draft) (l : ℕ) → reachBy wholeFault finished fs d l ≡ reach fs d l
+unfolding reach
+reach-same [] d l = refl
+reach-same (f ∷ fs) d l =
+    onward-same l (frameBy wholeFault finished d f) (λ e. reach-same fs e (suc l))
+    ∙ ap (onward (λ e. reach fs e (suc l)) l) (frame-same d f)
+
+concluded-same : (x : Reached) → concludedBy wholeFault finished x ≡ concluded x
+concluded-same (Reached.stopped n line) = refl
+concluded-same (Reached.came d) = refl
 
 lines-same : (lines : Lines) → linesBy wholeFault finished lines ≡ outcomeOf lines
-lines-same (Lines.frames fs) = frames-same fs empty 1
+lines-same (Lines.frames fs) = concluded-same (reachBy wholeFault finished fs empty 1) ∙ ap concluded (reach-same fs empty 1)
 lines-same (Lines.refused n k) = refl
 
 right : (text : List ℕ) → checkBy wholeFault finished text ≡ fileOf text
@@ -100,7 +108,7 @@ view-of-both =
     ∷ [])
 
 by-aggregate : fileOf view-of-both ≡ Outcome.refused 7 2
-unfolding fileOf framesOf linesOf run step digit textOf line hex hexDigit checkFrames checkFrame readE readC deepE deepC signedOf
+unfolding fileOf framesOf linesOf run step digit textOf line hex hexDigit reach checkFrame readE readC deepE deepC signedOf
 by-aggregate = refl
 
 by-bound : checkBy boundFirst finished view-of-both ≡ Outcome.refused 8 2
@@ -124,7 +132,7 @@ abbrev table-alone : List ℕ
 table-alone = textOf ((0x01 ∷ 0x08 ∷ 0x01 ∷ 0x00 ∷ 0x80 ∷ 0x00 ∷ 0x7f ∷ 0xff ∷ []) ∷ [])
 
 by-goal : fileOf table-alone ≡ Outcome.refused 3 0
-unfolding fileOf framesOf linesOf run step digit textOf line hex hexDigit checkFrames checkFrame signedOf
+unfolding fileOf framesOf linesOf run step digit textOf line hex hexDigit reach checkFrame signedOf
 by-goal = refl
 
 by-count : checkBy wholeFault countFirst table-alone ≡ Outcome.refused 10 0

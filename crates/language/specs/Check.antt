@@ -45,15 +45,23 @@ abbrev pub finished : Draft → Option Goal → Outcome
 finished d none = Outcome.refused 3 0
 finished d (some g) = cond (leb (candidates (fileAt d g)) candidateLimit) (Outcome.accepted (fileAt d g)) (Outcome.refused 10 0)
 
--- "frames in turn", each with its line
-abbrev pub onward : (Draft → Outcome) → ℕ → Checked → Outcome
-onward more line (Checked.fault n) = Outcome.refused n line
-onward more line (Checked.next d) = more d
+-- "frames in turn", each with its line: the refusal of the first wrong one, or the draft of them all
+pub data Reached : Type 0 where
+  stopped : ℕ → ℕ → Reached
+  came : Draft → Reached
 
-unfoldable pub checkFrames : List (List ℕ) → Draft → ℕ → Outcome
-checkFrames [] d line = finished d (d .goal)
-checkFrames (f ∷ fs) d line = onward (λ e. checkFrames fs e (suc line)) line (checkFrame d f)
+abbrev pub onward : (Draft → Reached) → ℕ → Checked → Reached
+onward further line (Checked.fault n) = Reached.stopped n line
+onward further line (Checked.next d) = further d
+
+unfoldable pub reach : List (List ℕ) → Draft → ℕ → Reached
+reach [] d line = Reached.came d
+reach (f ∷ fs) d line = onward (λ e. reach fs e (suc line)) line (checkFrame d f)
+
+abbrev pub concluded : Reached → Outcome
+concluded (Reached.stopped n line) = Outcome.refused n line
+concluded (Reached.came d) = finished d (d .goal)
 
 -- the frames of a whole text
 abbrev pub checkAll : List (List ℕ) → Outcome
-checkAll fs = checkFrames fs empty 1
+checkAll fs = concluded (reach fs empty 1)

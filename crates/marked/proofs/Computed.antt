@@ -27,7 +27,7 @@ use Rattle.meaning.proofs.DecidedLists.{ltb-dec}
 use Rattle.meaning.proofs.OneLook.{passes-over-none}
 use Rattle.meaning.proofs.Relations.{rows-mean}
 use Rattle.text.specs.Text.{framesOf, linesOf, run, step, digit as hexValue, textOf, line, hex, hexDigit}
-use Rattle.language.specs.Check.{Outcome, checkFrame, checkFrames}
+use Rattle.language.specs.Check.{Outcome, checkFrame, reach}
 use Rattle.language.specs.FileOf.{fileOf}
 use Rattle.language.proofs.TextLaws.{accepted-text}
 use Rattle.language.proofs.RealLooks.{look-of-text, demand-3, look-says}
@@ -81,7 +81,7 @@ prints text output e out r out′ p h =
 -- what there is to compute of an entry. To unfold this is to unfold the names of its line
 unfoldable pub Computed : Entry → Type 0
 unfolding
-    fileOf framesOf linesOf run step hexValue checkFrames checkFrame readE readC deepE signedOf minZ maxZ candidates size
+    fileOf framesOf linesOf run step hexValue reach checkFrame readE readC deepE signedOf minZ maxZ candidates size
     candidate isCase valid someRow database cells digit shown between sameValue compare apply round roundZ stepsUp sure holds negate connect
     start weight more finish outputOf searchedAll tableFrame numberBytes bitsOf textOf line hex hexDigit
 Computed (Entry.looked text s c a shows) = (F : File) × (fileOf text ≡ Outcome.accepted F)

@@ -1,12 +1,12 @@
 -- The program's output from the answer to its look, and the output's length. Assumes nothing.
 use mathlib.Core.Path.{_≡_, refl, sym, ap, subst, _∙_}
-use mathlib.Core.List.{List, [], _∷_, _++_, map}
-use Prim.Native.Nat.{ℕ, _≤_, _<_}
+use mathlib.Core.List.{List, [], _∷_, map}
+use Prim.Native.Nat.{ℕ, _≤_}
 use native.Mathlib.Omega.{arith}
-use borrow.Author.Tests.{le-ltb, lt-ltb, ltb-true, ltb-false}
+use borrow.Author.Tests.{le-ltb, ltb-true, ltb-false}
 use lib.Dec.{ltb}
 use lib.IntN.{ℤ}
-use lib.ListN.{length, take, drop, length-append, length-drop, length-map}
+use lib.ListN.{length, take, drop, length-append, length-map}
 use lib.Seq.{take-at}
 use Rattle.value.specs.Value.{shown}
 use Rattle.value.proofs.Decides.{by-test}
@@ -133,9 +133,6 @@ said-planned text {count = count} {work} {inst} {a} {w} {i} many whole room P L 
 -- ---- the output
 
 module _ (text out : List ℕ) where
-  pub printed-short : length out < outputRoom → Printed text out 0 out
-  printed-short h = record { length-is = rw (lt-ltb (length out) outputRoom h); left = rw (lt-ltb (length out) outputRoom h) }
-
   printed : {fs : List (List ℕ)} {out′ : List ℕ} {r : ℕ} → outputRoom ≤ length out → outcomeFrames (fileOf text) ≡ fs → Grown fs 0 out r out′ → Printed text out r out′
   unfolding outputOf
   printed {fs} {out′} {r} h e g =
@@ -161,17 +158,3 @@ module _ (text out : List ℕ) where
 
     pub printed-spent : {next : ℕ} → a ≡ Spent next → Printed text out r out′
     printed-spent {next} e = absurd (S .spent next (ap answerOf e))
-
-  -- with that room the bytes in front are the output
-  pub printed-whole : {out′ : List ℕ} {r : ℕ} → Printed text out r out′ → outputRoom ≤ length out → take r out′ ≡ outputOf text
-  printed-whole {out′} {r} p h =
-      let o = outputOf text in
-      let n : r ≡ length o = rw (le-ltb (length out) outputRoom h) at (p .length-is) in
-      let l : out′ ≡ o ++ drop (length o) out = rw (le-ltb (length out) outputRoom h) at (p .left) in
-      ap (take r) l ∙ take-at o (drop (length o) out) r (sym n)
-
-  -- what a caller of the function needs to read the output
-  pub printed-within : {out′ : List ℕ} {r : ℕ} → Printed text out r out′ → length out′ ≡ length out → r ≤ length out′
-  printed-within {out′} {r} p same =
-      by-test (ltb (length out) outputRoom) (λ e. omega (arith, rw e at (p .length-is)))
-      (λ e. let o = outputOf text in omega (arith, rw e at (p .length-is), rw e at (ap length (p .left)), length-append o (drop (length o) out), length-drop (length o) out, same))

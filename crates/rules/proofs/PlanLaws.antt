@@ -1,13 +1,11 @@
 -- A text and the plan of its file.
---     concludes      frames in turn, by how far they come
---     reach-legal    of frames of bytes: the draft is legal, and its frames are these
 --     plan-refused, plan-stopped, plan-without-goal, plan-too-large, plan-done    the ways that a check ends
 -- Assumes nothing.
-use mathlib.Core.Path.{_≡_, refl, sym, ap, subst, _∙_}
+use mathlib.Core.Path.{_≡_, refl, sym, ap, _∙_}
 use mathlib.Core.Bool.{Bool, true, false, cond}
-use mathlib.Core.List.{List, [], _∷_, _++_, map, append-assoc, append-nil}
+use mathlib.Core.List.{List, [], _∷_, _++_, map, append-assoc}
 use mathlib.Core.Option.{Option, none, some}
-use Prim.Native.Nat.{ℕ, suc, _+_, _*_, _≤_, _<_, min}
+use Prim.Native.Nat.{ℕ, _+_, _*_, _≤_, _<_, min}
 use native.Mathlib.Omega.{arith}
 use lib.Dec.{leb, ltb}
 use lib.IntN.{ℤ, pos}
@@ -29,66 +27,24 @@ use Rattle.value.proofs.Values.{all-map}
 use Rattle.value.proofs.Places.{getD-all}
 use Rattle.language.proofs.Readers.{Byte}
 use Rattle.bounds.specs.Catalog.{widthAt}
-use Rattle.language.specs.Draft.{Draft, Item, empty, added, fileAt, relationCount, stage}
-use Rattle.language.specs.Check.{Outcome, Checked, candidateLimit, checkFrame, finished, onward, checkFrames}
+use Rattle.language.specs.Draft.{Draft, empty, fileAt, relationCount, stage}
+use Rattle.language.specs.Check.{Outcome, Reached, candidateLimit, finished, reach, concluded}
 use Rattle.language.specs.FileOf.{outcomeOf, fileOf}
-use Rattle.language.specs.Legal.{LegalColumn, LegalTable, LegalKey, LegalView}
+use Rattle.language.specs.Legal.{LegalColumn, LegalTable}
 use Rattle.language.specs.Written.{tableBytes, keyBytes, viewBytes, goalBytes, fileFrames}
 use Rattle.rules.specs.Packed.{tooMany, packedTables, Bits16, Counted}
 use Rattle.rules.specs.Standing.{Held, startState}
-use Rattle.rules.specs.Plans.{Reached, goneOn, reach, concluded, WalkedTo, Walks, frameOf, Starts, Plans}
+use Rattle.rules.specs.Plans.{WalkedTo, Walks, frameOf, Starts, Plans}
 use Rattle.rules.specs.declared.plan.Plan.{Plan}
 use Rattle.rules.specs.declared.plan.Walked.{Walked}
-use Rattle.language.proofs.Accepted.{LegalDraft, lawful-obeys, draftFrames, goalFrames, frames-added}
+use Rattle.language.proofs.Accepted.{goalFrames, draft-file, Drafted, drafted}
 use Rattle.rules.proofs.CatalogLaws.{length-ranges}
 use Rattle.rules.proofs.EntryLaws.{none-entered}
 use Rattle.rules.proofs.FitLaws.{fits-empty}
-use Rattle.language.proofs.Folds.{kept-empty, kept-step}
 use Rattle.language.proofs.SoundFrames.{regroup}
 use Rattle.rules.proofs.StandingLaws.{stands-empty}
-use Rattle.language.proofs.Steps.{Taken, Looked, looked, step-bytes}
 use Rattle.language.proofs.Turns.{draft, stage-views}
 use Rattle.rules.proofs.WalkLaws.{starts-back}
-
--- ---- frames in turn
-
-concludes-onward : (more : Draft → Outcome) (further : Draft → Reached) (l : ℕ) → ((d : Draft) → more d ≡ concluded (further d)) → (c : Checked)
-    → onward more l c ≡ concluded (goneOn further l c)
-concludes-onward more further l e (Checked.fault n) = refl
-concludes-onward more further l e (Checked.next d) = e d
-
-pub concludes : (fs : List (List ℕ)) (d : Draft) (l : ℕ) → checkFrames fs d l ≡ concluded (reach fs d l)
-unfolding checkFrames reach
-concludes [] d l = refl
-concludes (f ∷ fs) d l =
-    concludes-onward (λ e. checkFrames fs e (suc l)) (λ e. reach fs e (suc l)) l (λ e. concludes fs e (suc l)) (checkFrame d f)
-
--- ---- the draft of frames of bytes
-
-pub record Written (d : Draft) (fs : List (List ℕ)) : Type 0 where
-  pub legal : LegalDraft d
-  pub frames : fs ≡ draftFrames d
-
-came-on : {d : Draft} {f : List ℕ} {c : Checked} (further : Draft → Reached) (l : ℕ) (e : Draft) → Looked d f c → goneOn further l c ≡ Reached.came e
-    → (i : Item) × Taken d f i × (further (added d i) ≡ Reached.came e)
-came-on further l e (Looked.fault h k) q = let z : _≡_ {A = ℕ} 0 1 = cc in absurd (omega arith)
-came-on further l e (Looked.next {i} t) q = (i, t, q)
-
-written-on : (d : Draft) (f : List ℕ) (i : Item) (before : List (List ℕ)) → All Byte f → Written d before → Taken d f i → Written (added d i) (before ++ (f ∷ []))
-written-on d f i before b w t =
-    let (is, lawful) = step-bytes d f i b t in
-    record {
-      legal = kept-step LegalTable LegalKey LegalView d i (w .legal) (t .turn) (lawful-obeys d i lawful);
-      frames = ap (λ (x : List (List ℕ)). x ++ (f ∷ [])) (w .frames) ∙ ap (λ (x : List ℕ). draftFrames d ++ (x ∷ [])) is ∙ sym (frames-added d i (t .turn));
-    }
-
-reach-legal : (fs : List (List ℕ)) (d : Draft) (l : ℕ) (before : List (List ℕ)) (e : Draft) → All (All Byte) fs → Written d before → reach fs d l ≡ Reached.came e
-    → Written e (before ++ fs)
-unfolding reach
-reach-legal [] d l before e bs w q = let p : d ≡ e = cc in subst (λ (x : Draft). Written x (before ++ [])) p (subst (Written d) (sym (append-nil before)) w)
-reach-legal (f ∷ fs) d l before e (All.cons b bs) w q =
-    let (i, t, next) = came-on (λ x. reach fs x (suc l)) l e (looked d f) q in
-    subst (Written e) (append-assoc before (f ∷ []) fs) (reach-legal fs (added d i) (suc l) (before ++ (f ∷ [])) e bs (written-on d f i before b w t) next)
 
 -- ---- the tables of a draft, packed
 
@@ -119,11 +75,6 @@ goal-none ts ks qs (some g) h = absurd (h refl)
 goal-some : (ts : List Table) (ks : List ForeignKey) (qs : List View) (o : Option Goal) → stage (draft ts ks qs o) ≡ 5 → (g : Goal) × (o ≡ some g)
 goal-some ts ks qs none h = absurd (omega (arith, stage-views ts ks qs))
 goal-some ts ks qs (some g) h = (g, refl)
-
--- the frames of a draft with its goal are those of the file
-draft-file : (d : Draft) (g : Goal) → d .goal ≡ some g → draftFrames d ≡ fileFrames (fileAt d g)
-unfolding fileFrames
-draft-file d g e = rw e
 
 -- a draft with its goal: what its number of candidates decides
 finished-some : (d : Draft) (g : Goal) → d .goal ≡ some g → (c : Bool) → leb (candidates (fileAt d g)) candidateLimit ≡ c
@@ -168,7 +119,7 @@ module _ (text : List ℕ) (r : Frames) (fs : List (List ℕ)) (e : framesOf tex
     (t : WalkedTo (reach fs empty 1) w shape ends) where
   outcome : fileOf text ≡ concluded (reach fs empty 1)
   unfolding fileOf
-  outcome = ap outcomeOf e ∙ concludes fs empty 1
+  outcome = ap outcomeOf e
 
   pub plan-stopped : (p : Plan) → (w .number ≡ 0 → ⊥) → p .number ≡ w .number → p .line ≡ w .line → Plans (fileOf text) p
   plan-stopped p nz a b = rw outcome (go (reach fs empty 1) t)
@@ -210,7 +161,7 @@ module _ (text : List ℕ) (r : Frames) (fs : List (List ℕ)) (e : framesOf tex
         let (g, named) = goal-some (d .tables) (d .keys) (d .views) (d .goal) (sym (held .stands .stage-is) ∙ five) in
         let (_, good) = only-such text fs e in
         let bytes : All (All Byte) fs = all-map (λ f x. x .bytes) good in
-        let wr : Written d fs = reach-legal fs empty 1 [] d bytes (record { legal = kept-empty LegalTable LegalKey LegalView; frames = refl }) q in
+        let wr : Drafted d fs = drafted fs d bytes q in
         let frames : fs ≡ fileFrames (fileAt d g) = wr .frames ∙ draft-file d g named in
         let others = map keyBytes (d .keys) ++ (map viewBytes (d .views) ++ goalFrames (d .goal)) in
         let packed : take (r .used) (r .bytes) ≡ packedTables (d .tables) ++ pack others =

@@ -15,10 +15,10 @@ use borrow.Author.Tests.{eqb-true, eqb-false}
 use Rattle.value.proofs.Decides.{by-test}
 use Rattle.text.specs.Answers.{pack}
 use Rattle.language.specs.Draft.{Draft, empty}
-use Rattle.language.specs.Check.{Checked, checkFrame}
+use Rattle.language.specs.Check.{Checked, checkFrame, Reached, onward, reach}
 use Rattle.rules.specs.Catalogued.{checkedFault}
 use Rattle.rules.specs.Standing.{Held, Stepped, startState}
-use Rattle.rules.specs.Plans.{Reached, goneOn, reach, WalkedTo, startFrom, frameOf, Starts}
+use Rattle.rules.specs.Plans.{WalkedTo, startFrom, frameOf, Starts}
 use Rattle.rules.specs.declared.state.State.{State}
 use Rattle.rules.specs.declared.step.Step.{Step}
 use Rattle.language.proofs.Steps.{Looked, looked}
@@ -87,16 +87,16 @@ module _ (packed : List ℕ) (s : State) (shape : List ℕ) (ends : List ℤ) (a
   pub never-short : at < length packed → length packed - (at + 1) < getD packed at 0 → ⊥
   never-short k l = let f = head-fits (front k) in omega arith
 
-  first-step : (k : at < length packed) → reach fs empty 1 ≡ goneOn (λ e. reach (front k .others) e (suc (suc line))) (suc line) (checkFrame (h .draft) (frameAt packed at))
+  first-step : (k : at < length packed) → reach fs empty 1 ≡ onward (λ e. reach (front k .others) e (suc (suc line))) (suc line) (checkFrame (h .draft) (frameAt packed at))
   unfolding reach
   first-step k = h .same ∙ ap (λ r. reach r (h .draft) (suc line)) (front k .split)
-      ∙ ap (λ f. goneOn (λ e. reach (front k .others) e (suc (suc line))) (suc line) (checkFrame (h .draft) f)) (sym (head-frame (front k)))
+      ∙ ap (λ f. onward (λ e. reach (front k .others) e (suc (suc line))) (suc line) (checkFrame (h .draft) f)) (sym (head-frame (front k)))
 
   module _ (k : at < length packed) (shape′ : List ℕ) (ends′ : List ℤ) (r : Step) (t : Stepped (frameAt packed at) s shape ends shape′ ends′ r) where
     pub walk-stops : (r .fault ≡ 0 → ⊥) → (s′ : State) → WalkedTo (reach fs empty 1) (record { number = r .fault; line = line + 1; state = s′ }) shape′ ends′
     walk-stops nz s′ =
         let c : checkFrame (h .draft) (frameAt packed at) ≡ Checked.fault (r .fault) = fault-of (checkFrame (h .draft) (frameAt packed at)) (t .fault (h .draft) (h .held)) nz in
-        let e : reach fs empty 1 ≡ Reached.stopped (r .fault) (suc line) = first-step k ∙ ap (goneOn (λ e. reach (front k .others) e (suc (suc line))) (suc line)) c in
+        let e : reach fs empty 1 ≡ Reached.stopped (r .fault) (suc line) = first-step k ∙ ap (onward (λ e. reach (front k .others) e (suc (suc line))) (suc line)) c in
         rw e (refl, omega arith, nz)
 
     pub walk-goes : r .fault ≡ 0 → Left packed (r .state) shape′ ends′ (at + 1 + getD packed at 0) (line + 1) fs
@@ -108,7 +108,7 @@ module _ (packed : List ℕ) (s : State) (shape : List ℕ) (ends : List ℤ) (a
           rest = front k .others;
           draft = e;
           bytes = head-next (front k);
-          same = first-step k ∙ ap (goneOn (λ x. reach (front k .others) x (suc (suc line))) (suc line)) c ∙ ap (reach (front k .others) e) n;
+          same = first-step k ∙ ap (onward (λ x. reach (front k .others) x (suc (suc line))) (suc line)) c ∙ ap (reach (front k .others) e) n;
           held = t .next (h .draft) e (h .held) c;
         }
 

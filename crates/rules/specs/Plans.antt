@@ -1,7 +1,7 @@
 -- The plan of a checked file: what a text gives, in the checker's arrays and counts. Assumes nothing: these are definitions.
 use mathlib.Core.Path.{_≡_}
 use mathlib.Core.Bool.{cond}
-use mathlib.Core.List.{List, [], _∷_}
+use mathlib.Core.List.{List}
 use Prim.Native.Nat.{ℕ, zero, suc, _+_, _<_}
 use lib.Dec.{ltb}
 use lib.IntN.{ℤ}
@@ -11,31 +11,15 @@ use Rattle.meaning.specs.Syntax.{File}
 use Rattle.meaning.specs.Bounds.{schema, schemas}
 use Rattle.meaning.specs.Candidates.{candidates}
 use Rattle.bounds.specs.Catalog.{widthAt, boundAt, maskAt}
-use Rattle.language.specs.Draft.{Draft, empty}
-use Rattle.language.specs.Check.{Outcome, Checked, checkFrame, finished}
+use Rattle.language.specs.Draft.{empty}
+use Rattle.language.specs.Check.{Outcome, Reached, reach}
 use Rattle.language.specs.Legal.{tableAt}
 use Rattle.language.specs.Written.{maskOf, fileFrames}
 use Rattle.rules.specs.Standing.{Held, startState}
 use Rattle.rules.specs.declared.plan.Plan.{Plan}
 use Rattle.rules.specs.declared.plan.Walked.{Walked}
 
--- ---- how far the frames bring a draft
-
-pub data Reached : Type 0 where
-  stopped : ℕ → ℕ → Reached
-  came : Draft → Reached
-
-abbrev pub goneOn : (Draft → Reached) → ℕ → Checked → Reached
-goneOn further line (Checked.fault n) = Reached.stopped n line
-goneOn further line (Checked.next d) = further d
-
-unfoldable pub reach : List (List ℕ) → Draft → ℕ → Reached
-reach [] d line = Reached.came d
-reach (f ∷ fs) d line = goneOn (λ e. reach fs e (suc line)) line (checkFrame d f)
-
-abbrev pub concluded : Reached → Outcome
-concluded (Reached.stopped n line) = Outcome.refused n line
-concluded (Reached.came d) = finished d (d .goal)
+-- ---- frames in turn
 
 -- what the walk over the frames answers: a refusal with its line, or 0 and the counts and arrays of the draft
 abbrev pub WalkedTo : Reached → Walked → List ℕ → List ℤ → Type 0

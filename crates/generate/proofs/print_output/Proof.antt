@@ -2,7 +2,7 @@
 use mathlib.Core.Path.{sym}
 use borrow.Author.Needs.{needs}
 use lib.Seq.{length-take-le}
-use Rattle.report.proofs.OutputLaws.{printed-within, printed-whole}
+use Rattle.language.proofs.PrintedLaws.{printed-within, printed-whole}
 use Rattle.generate.proofs.print_output.Statement.{statement}
 use Rattle.generate.proofs.print_output.Tie as tie
 

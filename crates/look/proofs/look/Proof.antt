@@ -17,7 +17,7 @@ same-length-2 : tie.Need-same-length-2
 same-length-2 c = search needs
 
 returns : tie.Need-returns
-returns c = looks-planned (c .before .before .before .before .before .before .before .args .text .now) (c .before .before .look-at .ensures) (c .before .before .before .before .before .check .ensures)
+returns c = looks-planned _ (c .before .before .look-at .ensures) (c .before .before .before .before .before .check .ensures)
 
 pub look-spec : {M : Type 1} → statement M
 look-spec = tie.close (tie.spec check-requires look-at-requires same-length same-length-2 returns)

@@ -33,7 +33,9 @@ same-length-2 : tie.Need-same-length-2
 same-length-2 c = search needs
 
 returns-3 : tie.Need-returns-3
-returns-3 c = at-file (search needs) (search needs) (omega arith) (c .before .before .before .before .before .before .before .before .before .before .before .before .if2 .left) (c .before .before .before .before .before .before .before .before .outline-of .ensures) (c .before .before .looked .ensures)
+returns-3 c =
+    at-file (search needs) (search needs) (omega arith) (c .before .before .before .before .before .before .before .before .before .before .before .before .if2 .left)
+    (c .before .before .before .before .before .before .before .before .outline-of .ensures) (c .before .before .looked .ensures)
 
 pub look-at-spec : {M : Type 1} → statement M
 look-at-spec =

@@ -20,7 +20,9 @@ same-length : tie.Need-same-length
 same-length c = search needs
 
 returns : tie.Need-returns
-returns c = case-lined (c .before .before .before .before .before .before .before .before .before .case-frame .ensures) (c .before .before .before .before .before .before .write-line .ensures) (c .before .before .table-lines .ensures)
+returns c =
+    case-lined (c .before .before .before .before .before .before .before .before .before .case-frame .ensures) (c .before .before .before .before .before .before .write-line .ensures)
+    (c .before .before .table-lines .ensures)
 
 pub case-lines-spec : {M : Type 1} → statement M
 case-lines-spec =

@@ -1,7 +1,8 @@
 -- `report::output` meets its contract. Assumes nothing.
 use native.Mathlib.Omega.{arith}
 use borrow.Author.Needs.{needs}
-use Rattle.report.proofs.OutputLaws.{said-planned, printed-short, printed-case, printed-none, printed-refused, printed-spent}
+use Rattle.language.proofs.PrintedLaws.{printed-short}
+use Rattle.report.proofs.OutputLaws.{said-planned, printed-case, printed-none, printed-refused, printed-spent}
 use Rattle.report.proofs.output.Statement.{statement}
 use Rattle.report.proofs.output.Tie as tie
 
@@ -60,22 +61,39 @@ same-length : tie.Need-same-length
 same-length c = search needs
 
 returns-2 : tie.Need-returns-2
-returns-2 c = printed-case (c .before .before .before .before .before .before .before .before .before .before .before .before .before .before .before .before .before .before .before .args .text .now) (c .before .before .before .before .before .before .before .before .before .before .before .before .before .before .before .before .before .before .before .args .out .now) (omega arith) (said-planned (c .before .before .before .before .before .before .before .before .before .before .before .before .before .before .before .before .before .before .before .args .text .now) (omega arith) (omega arith) (omega arith) (c .before .before .before .before .before .before .before .before .before .before .before .before .before .before .before .check .ensures) (c .before .before .before .before .before .before .before .before .before .before .before .look-at .ensures)) (c .before .before .before .before .before .before .before .before .before .before .before .before .before .before .before .check .result) (c .before .before .before .before .before .before .before .a .given .1) (c .before .before .before .before .before .before .before .before .before .before .before .before .before .before .before .check .ensures) (c .before .before .case-lines .ensures)
+returns-2 c =
+    printed-case _ _ (omega arith)
+    (said-planned _ (omega arith) (omega arith) (omega arith) (c .before .before .before .before .before .before .before .before .before .before .before .before .before .before .before .check .ensures)
+    (c .before .before .before .before .before .before .before .before .before .before .before .look-at .ensures))
+    (c .before .before .before .before .before .before .before .before .before .before .before .before .before .before .before .check .result)
+    (c .before .before .before .before .before .before .before .a .given .1)
+    (c .before .before .before .before .before .before .before .before .before .before .before .before .before .before .before .check .ensures) (c .before .before .case-lines .ensures)
 
 same-length-2 : tie.Need-same-length-2
 same-length-2 c = search needs
 
 returns-3 : tie.Need-returns-3
-returns-3 c = printed-none (c .before .before .before .before .before .before .before .before .before .before .before .before .before .before .before .before .before .args .text .now) (c .before .before .before .before .before .before .before .before .before .before .before .before .before .before .before .before .before .args .out .now) (omega arith) (said-planned (c .before .before .before .before .before .before .before .before .before .before .before .before .before .before .before .before .before .args .text .now) (omega arith) (omega arith) (omega arith) (c .before .before .before .before .before .before .before .before .before .before .before .before .before .check .ensures) (c .before .before .before .before .before .before .before .before .before .look-at .ensures)) (c .before .before .before .before .before .enum-told .given .1) (c .before .before .write-line .ensures)
+returns-3 c =
+    printed-none _ _ (omega arith)
+    (said-planned _ (omega arith) (omega arith) (omega arith) (c .before .before .before .before .before .before .before .before .before .before .before .before .before .check .ensures)
+    (c .before .before .before .before .before .before .before .before .before .look-at .ensures))
+    (c .before .before .before .before .before .enum-told .given .1) (c .before .before .write-line .ensures)
 
 returns-4 : tie.Need-returns-4
-returns-4 c = printed-spent (c .before .before .before .before .before .before .before .before .before .before .before .before .args .text .now) (c .before .before .before .before .before .before .before .before .before .before .before .before .args .out .now) (omega arith) (said-planned (c .before .before .before .before .before .before .before .before .before .before .before .before .args .text .now) (omega arith) (omega arith) (omega arith) (c .before .before .before .before .before .before .before .before .check .ensures) (c .before .before .before .before .look-at .ensures)) (c .enum-told2 .given .1)
+returns-4 c =
+    printed-spent _ _ (omega arith)
+    (said-planned _ (omega arith) (omega arith) (omega arith) (c .before .before .before .before .before .before .before .before .check .ensures) (c .before .before .before .before .look-at .ensures))
+    (c .enum-told2 .given .1)
 
 same-length-3 : tie.Need-same-length-3
 same-length-3 c = search needs
 
 returns-5 : tie.Need-returns-5
-returns-5 c = printed-refused (c .before .before .before .before .before .before .before .before .before .before .before .before .before .before .before .before .before .before .before .args .text .now) (c .before .before .before .before .before .before .before .before .before .before .before .before .before .before .before .before .before .before .before .args .out .now) (omega arith) (said-planned (c .before .before .before .before .before .before .before .before .before .before .before .before .before .before .before .before .before .before .before .args .text .now) (omega arith) (omega arith) (omega arith) (c .before .before .before .before .before .before .before .before .before .before .before .before .before .before .before .check .ensures) (c .before .before .before .before .before .before .before .before .before .before .before .look-at .ensures)) (c .before .before .before .before .before .before .before .a2 .given .1) (c .before .before .before .before .before .refusal-frame .ensures) (c .before .before .write-line2 .ensures)
+returns-5 c =
+    printed-refused _ _ (omega arith)
+    (said-planned _ (omega arith) (omega arith) (omega arith) (c .before .before .before .before .before .before .before .before .before .before .before .before .before .before .before .check .ensures)
+    (c .before .before .before .before .before .before .before .before .before .before .before .look-at .ensures))
+    (c .before .before .before .before .before .before .before .a2 .given .1) (c .before .before .before .before .before .refusal-frame .ensures) (c .before .before .write-line2 .ensures)
 
 pub output-spec : {M : Type 1} → statement M
 output-spec =
