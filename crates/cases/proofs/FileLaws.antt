@@ -14,7 +14,7 @@ use Rattle.meaning.specs.Syntax.{View, Table, File}
 use Rattle.meaning.specs.Algebra.{query}
 use Rattle.meaning.specs.Bounds.{Schema, noSchema, schema, schemas, tableSchema, viewSchema}
 use Rattle.meaning.proofs.Elements.{all-image, all-append}
-use Rattle.meaning.proofs.Sizes.{length-hulls}
+use Rattle.meaning.proofs.Sizes.{length-setRanges}
 use Rattle.meaning.proofs.Relations.{query-split}
 use Rattle.meaning.proofs.Stacks.{length-snoc, stack-take, stack-at, length-stack}
 use Rattle.language.specs.Legal.{Legal, LegalTable, LegalView, EveryView}
@@ -50,13 +50,9 @@ view-small {ss = ss} (View.grouped fs w gs h es) s l = record {
   bound = leb-true (viewSchema ss (View.grouped fs w gs h es) .bound) 64 (l .bound);
   columns = rw length-map (l .fields .select .count .most);
 }
-view-small {ss = ss} (View.union i j) s l = record {
-  bound = leb-true (viewSchema ss (View.union i j) .bound) 64 (l .bound);
-  columns = omega (arith, length-hulls (schema ss i .ranges) (schema ss j .ranges), schema-small s i .columns);
-}
-view-small {ss = ss} (View.intersection i j) s l = record {
-  bound = leb-true (viewSchema ss (View.intersection i j) .bound) 64 (l .bound);
-  columns = schema-small s i .columns;
+view-small {ss = ss} (View.set op i j) s l = record {
+  bound = leb-true (viewSchema ss (View.set op i j) .bound) 64 (l .bound);
+  columns = omega (arith, length-setRanges op (schema ss i .ranges) (schema ss j .ranges), schema-small s i .columns);
 }
 
 views-small : {t : ℕ} {qs : List View} {ss : List Schema} → All Small ss → EveryView (LegalView t) qs ss → All Small (stack viewSchema qs ss)

@@ -1,16 +1,32 @@
 -- Where the parts of a view's frame stand. Assumes nothing.
 use mathlib.Core.Path.{_≡_, sym, ap, _∙_}
 use mathlib.Core.List.{List, _∷_, _++_, map, append-assoc}
-use Prim.Native.Nat.{ℕ, _+_, _<_}
+use Prim.Native.Nat.{ℕ, _+_, _≤_, _<_}
+use native.Mathlib.Omega.{arith}
 use lib.ListN.{length, getD, drop, List·getD-append}
 use lib.Seq.{getD-drop, drop-drop, drop-append-seam}
 use Rattle.value.proofs.Places.{byte-here, two-here}
 use Rattle.meaning.specs.Lists.{joined}
-use Rattle.meaning.specs.Syntax.{Expr, Cond, Place, View}
+use Rattle.meaning.specs.Syntax.{Expr, Cond, Place, SetOperation, View}
 use Rattle.language.specs.Prefix.{encodeE, encodeC}
-use Rattle.language.specs.Written.{viewBytes}
+use Rattle.language.specs.Written.{setKind, viewBytes}
 use Rattle.views.specs.Grouping.{placesBytes}
 use Rattle.cases.specs.Relations.{kindOf}
+
+-- ---- the kind of a set view
+
+pub set-large : (op : SetOperation) → 5 ≤ setKind op
+set-large SetOperation.union = omega arith
+set-large SetOperation.intersection = omega arith
+
+-- 5 is a union's
+pub by-union : {kind : ℕ} (P : SetOperation → Type 0) → kind ≡ 5 → P SetOperation.union → (op : SetOperation) → setKind op ≡ kind → P op
+by-union P z p SetOperation.union e = p
+by-union P z p SetOperation.intersection e = absurd (omega arith)
+
+pub by-intersection : {kind : ℕ} (P : SetOperation → Type 0) → (kind ≡ 5 → ⊥) → P SetOperation.intersection → (op : SetOperation) → setKind op ≡ kind → P op
+by-intersection P z p SetOperation.union e = absurd (z (sym e))
+by-intersection P z p SetOperation.intersection e = p
 
 module _ (bytes : List ℕ) where
   -- a list of bytes that stands at i, and what follows it
@@ -26,8 +42,7 @@ module _ (bytes : List ℕ) where
   unfolding viewBytes
   kind-here at (View.basic fs w es) rest e = byte-here bytes at e .0
   kind-here at (View.grouped fs w gs h es) rest e = byte-here bytes at e .0
-  kind-here at (View.union i j) rest e = byte-here bytes at e .0
-  kind-here at (View.intersection i j) rest e = byte-here bytes at e .0
+  kind-here at (View.set op i j) rest e = byte-here bytes at e .0
 
   -- the from list, behind the kind and its length, and what follows it
   from-here : (at k : ℕ) (fs l : List ℕ) → drop at bytes ≡ k ∷ length fs ∷ fs ++ l
@@ -83,16 +98,9 @@ module _ (bytes : List ℕ) where
         (f .0, f .1, a .0, a .1, a .2)
 
   -- the operands of a set view
-  set-here : (at k i j : ℕ) (l : List ℕ) → drop at bytes ≡ k ∷ i ∷ j ∷ l → (getD bytes (at + 1) 0 ≡ i) × (getD bytes (at + 2) 0 ≡ j)
-  set-here at k i j l e =
-      let a = two-here bytes at e in
-      (a .1, byte-here bytes (at + 2) (a .2) .0)
-
-  pub union-parts : (at i j : ℕ) (rest : List ℕ) → drop at bytes ≡ viewBytes (View.union i j) ++ rest → (getD bytes (at + 1) 0 ≡ i) × (getD bytes (at + 2) 0 ≡ j)
-  unfolding viewBytes
-  union-parts at i j rest e = set-here at 5 i j rest e
-
-  pub intersection-parts : (at i j : ℕ) (rest : List ℕ) → drop at bytes ≡ viewBytes (View.intersection i j) ++ rest
+  pub set-parts : (at : ℕ) (op : SetOperation) (i j : ℕ) (rest : List ℕ) → drop at bytes ≡ viewBytes (View.set op i j) ++ rest
       → (getD bytes (at + 1) 0 ≡ i) × (getD bytes (at + 2) 0 ≡ j)
   unfolding viewBytes
-  intersection-parts at i j rest e = set-here at 6 i j rest e
+  set-parts at op i j rest e =
+      let a = two-here bytes at e in
+      (a .1, byte-here bytes (at + 2) (a .2) .0)

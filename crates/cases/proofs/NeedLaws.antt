@@ -21,12 +21,13 @@ use Rattle.meaning.proofs.Relations.{query-split}
 use Rattle.meaning.proofs.WellFormed.{rules}
 use Rattle.meaning.proofs.Stacks.{by-lt, getElem-some}
 use Rattle.language.specs.Legal.{Legal}
-use Rattle.language.specs.Written.{viewBytes}
+use Rattle.language.specs.Written.{setKind, viewBytes}
 use Rattle.language.proofs.LegalAccepted.{legal-wellFormed}
 use Rattle.cases.specs.Given.{Given}
 use Rattle.cases.specs.Needs.{Flag, Asks, Wants, ownConditions, Names, More, NamesSet, NeedsRows, NeedsSigns, NeedsGoal, NeedsOf}
 use Rattle.cases.specs.declared.outline.Outline.{Outline}
 use Rattle.cases.specs.declared.needs.Named.{Named}
+use Rattle.cases.proofs.FrameBytes.{set-large}
 use Rattle.cases.proofs.FlagLaws.{more-same, more-all, more-set, flag-as, flag-set}
 
 -- ---- where the names of a view stand in its bytes
@@ -42,8 +43,7 @@ own-frame : (q : View) → ownConditions q ≡ true → OwnFrame q
 unfolding viewBytes
 own-frame (View.basic fs w es) e = record { kind = 3; small = omega arith; others = _; is = refl }
 own-frame (View.grouped fs w gs h es) e = record { kind = 4; small = omega arith; others = _; is = refl }
-own-frame (View.union i j) e = absurd (true≢false (sym e))
-own-frame (View.intersection i j) e = absurd (true≢false (sym e))
+own-frame (View.set op i j) e = absurd (true≢false (sym e))
 
 -- in a set view's, behind its kind
 record SetFrame (q : View) : Type 0 where
@@ -56,8 +56,7 @@ set-frame : (q : View) → ownConditions q ≡ false → SetFrame q
 unfolding viewBytes
 set-frame (View.basic fs w es) e = absurd (true≢false e)
 set-frame (View.grouped fs w gs h es) e = absurd (true≢false e)
-set-frame (View.union i j) e = record { kind = 5; large = omega arith; two = refl; is = refl }
-set-frame (View.intersection i j) e = record { kind = 6; large = omega arith; two = refl; is = refl }
+set-frame (View.set op i j) e = record { kind = setKind op; large = set-large op; two = refl; is = refl }
 
 module _ (bytes : List ℕ) (at : ℕ) (q : View) (rest : List ℕ) (e : drop at bytes ≡ viewBytes q ++ rest) where
   first-byte : (k : ℕ) (l : List ℕ) → viewBytes q ≡ k ∷ l → getD bytes at 0 ≡ k
@@ -164,8 +163,7 @@ asks-more : {needed needed′ asked asked′ : List ℕ} → More needed needed�
     → Asks needed′ asked′ q
 asks-more n a (View.basic fs w es) h = more-all n h
 asks-more n a (View.grouped fs w gs c es) h = more-all n h
-asks-more n a (View.union i j) h = (a .kept i (h .0), a .kept j (h .1))
-asks-more n a (View.intersection i j) h = (a .kept i (h .0), a .kept j (h .1))
+asks-more n a (View.set op i j) h = (a .kept i (h .0), a .kept j (h .1))
 
 wants-more : {needed needed′ asked asked′ : List ℕ} → More needed needed′ → More asked asked′ → (b : Bool) (v : ℕ) → Wants needed asked b v
     → Wants needed′ asked′ b v
@@ -178,8 +176,7 @@ asks-all : {needed asked : List ℕ} (q : View) → (ownConditions q ≡ true �
     → Asks needed asked q
 asks-all (View.basic fs w es) f g = f refl
 asks-all (View.grouped fs w gs c es) f g = f refl
-asks-all (View.union i j) f g = let (x, h) = cons-all (g refl) in (x, cons-all h .0)
-asks-all (View.intersection i j) f g = let (x, h) = cons-all (g refl) in (x, cons-all h .0)
+asks-all (View.set op i j) f g = let (x, h) = cons-all (g refl) in (x, cons-all h .0)
 
 some-one : {p q : View} → some p ≡ some q → p ≡ q
 some-one e = cc

@@ -58,5 +58,4 @@ all-covers {F} L = record { goal = goal (F .goal .negative); rows = λ v q e f. 
     asks : (q : View) → All (Flag (replicate 16 1)) (names q) → Asks (replicate 16 1) (replicate 16 1) q
     asks (View.basic fs w es) h = h
     asks (View.grouped fs w gs c es) h = h
-    asks (View.union i j) (All.cons a (All.cons b All.nil)) = (a, b)
-    asks (View.intersection i j) (All.cons a (All.cons b All.nil)) = (a, b)
+    asks (View.set op i j) (All.cons a (All.cons b All.nil)) = (a, b)

@@ -90,15 +90,9 @@ module _ {F : File} {d : Database} {needed asked : List ℕ} (L : Legal F) (C : 
       → Known F d needed asked counts refuted work v → Asks needed asked q → SignStands n (take v (schemas F)) (M v) neg counts refuted work v q
   sign-stands v (View.basic fs w es) e l whole K flags = named-stand v (View.basic fs w es) e l whole K flags
   sign-stands v (View.grouped fs w gs h es) e l whole K flags = named-stand v (View.grouped fs w gs h es) e l whole K flags
-  sign-stands v (View.union i j) e l whole K (fi, fj) =
-      let legal = view-legal L v (View.union i j) e .fields in
-      let place = before-length L v (View.union i j) e in (
-        record { told = K .signs-known i (legal .left .behind) (omega (arith, legal .left .before)) fi },
-        record { told = K .signs-known j (legal .right .behind) (omega (arith, legal .right .before)) fj },
-      )
-  sign-stands v (View.intersection i j) e l whole K (fi, fj) =
-      let legal = view-legal L v (View.intersection i j) e .fields in
-      let place = before-length L v (View.intersection i j) e in (
+  sign-stands v (View.set op i j) e l whole K (fi, fj) =
+      let legal = view-legal L v (View.set op i j) e .fields in
+      let place = before-length L v (View.set op i j) e in (
         record { told = K .signs-known i (legal .left .behind) (omega (arith, legal .left .before)) fi },
         record { told = K .signs-known j (legal .right .behind) (omega (arith, legal .right .before)) fj },
       )

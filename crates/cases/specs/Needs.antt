@@ -22,8 +22,7 @@ pub record Flag (flags : List ℕ) (i : ℕ) : Type 0 where
 abbrev pub Asks : List ℕ → List ℕ → View → Type 0
 Asks needed asked (View.basic fs w es) = All (Flag needed) fs
 Asks needed asked (View.grouped fs w gs h es) = All (Flag needed) fs
-Asks needed asked (View.union i j) = Flag asked i × Flag asked j
-Asks needed asked (View.intersection i j) = Flag asked i × Flag asked j
+Asks needed asked (View.set op i j) = Flag asked i × Flag asked j
 
 -- what tells of the goal: its sign, or its rows
 abbrev pub Wants : List ℕ → List ℕ → Bool → ℕ → Type 0
@@ -42,8 +41,7 @@ pub record Covers (F : File) (needed asked : List ℕ) : Type 0 where
 abbrev pub ownConditions : View → Bool
 ownConditions (View.basic fs w es) = true
 ownConditions (View.grouped fs w gs h es) = true
-ownConditions (View.union i j) = false
-ownConditions (View.intersection i j) = false
+ownConditions (View.set op i j) = false
 
 pub record Names (bytes : List ℕ) (at : ℕ) (r : Named) : Type 0 where
   pub names-are : (q : View) (rest : List ℕ) → drop at bytes ≡ viewBytes q ++ rest

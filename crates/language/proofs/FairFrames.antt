@@ -11,7 +11,7 @@ use Rattle.value.specs.Bag.{All}
 use Rattle.value.specs.Integer.{bytesZ}
 use Rattle.value.proofs.Decides.{and-parts}
 use Rattle.meaning.specs.Lists.{all}
-use Rattle.meaning.specs.Syntax.{View}
+use Rattle.meaning.specs.Syntax.{SetOperation}
 use Rattle.meaning.specs.Bounds.{ordered, earlier}
 use Rattle.language.specs.Draft.{Draft, Item, relationCount, isTable, isView, width, schemasOf, stageOf}
 use Rattle.language.specs.Frames.{columnField, tableFrame, pairField, keyFrame, fromList, basicFrame, placeField, groupedFrame, setFrame, goalFrame, frame}
@@ -77,11 +77,10 @@ module _ (d : Draft) where
       fair-bind (fairC cols) (λ w _. fair-bind (fair-times (fair-place cols) g) (λ gs _. fair-bind (fairC cols) (λ v _.
       fair-bind (fair-times (fairE cols) n) (λ es _. fair-ending _ (refl, h))))))))
 
-  fair-set : (set : ℕ → ℕ → View) → ((i j : ℕ) → all (λ i. ltb i (length (schemasOf d))) (i ∷ j ∷ []) ≡ true → earlier (schemasOf d) (set i j) ≡ true)
-      → Fair Nil (setFrame d set) (InPlace 3)
-  fair-set set names =
+  fair-set : (op : SetOperation) → Fair Nil (setFrame d op) (InPlace 3)
+  fair-set op =
       fair-bind (fair-byteIf (isView d) six) (λ i p. fair-bind (fair-byteIf (isView d) six) (λ j q.
-      fair-ending _ (refl, names i j (before-schemas (i ∷ j ∷ []) (All.cons (view-before i p) (All.cons (view-before j q) All.nil))))))
+      fair-ending _ (refl, before-schemas (i ∷ j ∷ []) (All.cons (view-before i p) (All.cons (view-before j q) All.nil)))))
 
   fair-goal : Fair Nil (goalFrame d) (InPlace 4)
   fair-goal =
@@ -90,4 +89,4 @@ module _ (d : Draft) where
   pub fair-frame : (k : ℕ) → 1 ≤ stageOf k → Fair Nil (frame d k) (λ i. (stageOf k ≡ itemStage i) × Well i)
   fair-frame =
       by-kind (λ k. Fair Nil (frame d k) (InPlace (stageOf k))) fair-table fair-key fair-basic fair-grouped
-      (fair-set View.union (λ i j h. h)) (fair-set View.intersection (λ i j h. h)) fair-goal
+      (fair-set SetOperation.union) (fair-set SetOperation.intersection) fair-goal

@@ -16,7 +16,7 @@ use Rattle.value.proofs.Linear.{true-leZ, ints}
 use Rattle.value.proofs.TwosComplement.{bytes-back}
 use Rattle.value.proofs.Values.{all-map}
 use Rattle.meaning.specs.Lists.{joined}
-use Rattle.meaning.specs.Syntax.{Expr, Cond, Place, Pair, View, Table, ForeignKey, Goal}
+use Rattle.meaning.specs.Syntax.{Expr, Cond, Place, Pair, SetOperation, View, Table, ForeignKey, Goal}
 use Rattle.language.specs.Prefix.{encodeE, encodeC}
 use Rattle.language.specs.Reading.{Read, Reader, done, refuse, either, byteIf, readE, InLimitsE}
 use Rattle.language.proofs.Readers.{one}
@@ -128,9 +128,9 @@ module _ (d : Draft) where
   is-view : {r i : ℕ} → r ≡ relationCount d → NamesView (length (d .tables)) r i → isView d i ≡ true
   is-view {r} {i} e h = rw (le-leb (length (d .tables)) i (h .behind), lt-ltb i (relationCount d) (rw e at (h .before)))
 
-  pub set-back : (set : ℕ → ℕ → View) (i j : ℕ) → LegalSet (length (d .tables)) (schemasOf d) i j
-      → setFrame d set (i ∷ j ∷ []) ≡ Read.ok (Item.view (set i j)) []
-  set-back set i j h = rw (is-view (count-schemas d) (h .left), is-view (count-schemas d) (h .right))
+  pub set-back : (op : SetOperation) (i j : ℕ) → LegalSet (length (d .tables)) (schemasOf d) i j
+      → setFrame d op (i ∷ j ∷ []) ≡ Read.ok (Item.view (View.set op i j)) []
+  set-back op i j h = rw (is-view (count-schemas d) (h .left), is-view (count-schemas d) (h .right))
 
   pub goal-back : (g : Goal) → NamesView (length (d .tables)) (relationCount d) (g .view)
       → goalFrame d (g .view ∷ cond (g .negative) 1 0 ∷ []) ≡ Read.ok (Item.goal g) []

@@ -17,17 +17,17 @@ use Rattle.value.specs.Value.{Column, Operation, Comparison, Connective, Aggreg
 use Rattle.value.proofs.Linear.{ints}
 use Rattle.value.proofs.Values.{all-map}
 use Rattle.meaning.specs.Lists.{joined}
-use Rattle.meaning.specs.Syntax.{Expr, Cond, Place, Pair, View, Table, ForeignKey, Goal, File}
+use Rattle.meaning.specs.Syntax.{Expr, Cond, Place, Pair, SetOperation, View, Table, ForeignKey, Goal, File}
 use Rattle.language.specs.Prefix.{operationToken, comparisonToken, connectiveToken, aggregateByte, encodeE, encodeC}
 use Rattle.language.specs.Reading.{InLimitsE, InLimitsC}
 use Rattle.meaning.specs.Bounds.{Schema, schema, noSchema, tableSchema, viewSchema}
 use Rattle.meaning.proofs.Elements.{all-append, all-at, all-image}
-use Rattle.meaning.proofs.Sizes.{length-hulls}
+use Rattle.meaning.proofs.Sizes.{length-setRanges}
 use Rattle.language.proofs.PrefixForms.{constant-fits}
 use Rattle.language.proofs.Readers.{Byte}
 use Rattle.meaning.proofs.Stacks.{length-snoc}
-use Rattle.language.specs.Legal.{LegalColumn, LegalTable, LegalPair, LegalKey, LegalFrom, LegalSelect, LegalPlace, NamesView, LegalView, ViewFields, EveryView, Legal, widths}
-use Rattle.language.specs.Written.{maskOf, columnBytes, tableBytes, keyBytes, viewBytes, goalBytes, fileFrames}
+use Rattle.language.specs.Legal.{LegalColumn, LegalTable, LegalPair, LegalKey, LegalFrom, LegalSelect, LegalPlace, LegalView, ViewFields, EveryView, Legal, widths}
+use Rattle.language.specs.Written.{maskOf, columnBytes, tableBytes, keyBytes, setKind, viewBytes, goalBytes, fileFrames}
 use Rattle.language.proofs.MaskLaws.{mask-small}
 use Rattle.language.proofs.SoundFrames.{pairBytes, placeBytes}
 
@@ -150,9 +150,7 @@ module _ (t : ℕ) (ss : List Schema) (n : length ss ≤ 16) (narrow : All Narro
   view-narrow : (q : View) → ViewFields t ss q → Narrow (viewSchema ss q)
   view-narrow (View.basic fs w es) h = simp length-map (omega (arith, h .select .count))
   view-narrow (View.grouped fs w gs v es) h = simp length-map (omega (arith, h .select .count))
-  view-narrow (View.union i j) h =
-      omega (arith, length-hulls (schema ss i .ranges) (schema ss j .ranges), all-at narrow noSchema i (h .left .before))
-  view-narrow (View.intersection i j) h = all-at narrow noSchema i (h .left .before)
+  view-narrow (View.set op i j) h = omega (arith, length-setRanges op (schema ss i .ranges) (schema ss j .ranges), all-at narrow noSchema i (h .left .before))
 
   from-bytes : (fs : List ℕ) → LegalFrom ss fs → All Byte fs
   from-bytes fs h = all-map (λ i k. omega arith) (h .earlier)
@@ -166,8 +164,9 @@ module _ (t : ℕ) (ss : List Schema) (n : length ss ≤ 16) (narrow : All Narro
   select-bytes : (fs : List ℕ) (es : List Expr) → LegalFrom ss fs → LegalSelect (widths ss fs) es → All Byte (joined (map encodeE es))
   select-bytes fs es f h = all-joined (all-map (bytesE (widths ss fs) (from-few fs f) (from-narrow fs f)) (h .limits))
 
-  set-bytes : (k i : ℕ) → Byte k → NamesView t (length ss) i → (j : ℕ) → NamesView t (length ss) j → All Byte (k ∷ i ∷ j ∷ [])
-  set-bytes k i b p j q = put k b (put i (omega (arith, p .before)) (put j (omega (arith, q .before)) All.nil))
+  kind-byte : (op : SetOperation) → Byte (setKind op)
+  kind-byte SetOperation.union = omega arith
+  kind-byte SetOperation.intersection = omega arith
 
   view-bytes : (q : View) → ViewFields t ss q → All Byte (viewBytes q)
   unfolding viewBytes
@@ -187,8 +186,7 @@ module _ (t : ℕ) (ss : List Schema) (n : length ss ≤ 16) (narrow : All Narro
       (all-joined (all-map (place-bytes cols (from-few fs f) (from-narrow fs f)) (h .grouping))))
       (condition v (h .having)))
       (select-bytes fs es f (h .select)))
-  view-bytes (View.union i j) h = set-bytes 5 i (omega arith) (h .left) j (h .right)
-  view-bytes (View.intersection i j) h = set-bytes 6 i (omega arith) (h .left) j (h .right)
+  view-bytes (View.set op i j) h = put (setKind op) (kind-byte op) (put i (omega (arith, h .left .before)) (put j (omega (arith, h .right .before)) All.nil))
 
 views-bytes : (t : ℕ) (qs : List View) (ss : List Schema) → EveryView (LegalView t) qs ss → length ss + length qs ≤ 16 → All Narrow ss → All (All Byte) (map viewBytes qs)
 views-bytes t [] ss h n all = All.nil

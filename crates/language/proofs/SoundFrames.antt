@@ -14,7 +14,7 @@ use Rattle.value.proofs.Linear.{leZ-true}
 use Rattle.value.proofs.TwosComplement.{high-back, low-back}
 use Rattle.value.proofs.Values.{all-map}
 use Rattle.meaning.specs.Lists.{joined}
-use Rattle.meaning.specs.Syntax.{Place, Pair, View}
+use Rattle.meaning.specs.Syntax.{Place, Pair, SetOperation}
 use Rattle.language.specs.Prefix.{encodeE, encodeC}
 use Rattle.language.specs.Reading.{Read, Reader, readE, readC, InLimitsE, InLimitsC}
 use Rattle.language.proofs.Readers.{Byte, one, Sound, sound-done, sound-refuse, sound-bind, sound-either, sound-byte, sound-byteIf}
@@ -22,7 +22,7 @@ use Rattle.language.proofs.PrefixForms.{constant-limits, soundE, soundC
 use Rattle.language.specs.Draft.{Draft, Item, relationCount, isTable, isView, width, schemasOf, stageOf}
 use Rattle.language.specs.Frames.{times, field, ending, columnField, tableFrame, pairField, keyFrame, fromList, basicFrame, placeField, groupedFrame, setFrame, goalFrame, frame}
 use Rattle.language.specs.Legal.{Limits, LegalColumn, LegalTable, LegalPair, KeyFields, LegalFrom, LegalPlace, NamesView, LegalSet, ViewFields}
-use Rattle.language.specs.Written.{columnBytes, tableBytes, keyBytes, viewBytes, goalBytes}
+use Rattle.language.specs.Written.{columnBytes, tableBytes, keyBytes, setKind, viewBytes, goalBytes}
 use Rattle.language.proofs.FairReaders.{limits-test}
 use Rattle.language.proofs.MaskLaws.{length-maskBits, mask-back}
 use Rattle.language.proofs.Turns.{itemBytes, by-kind, count-schemas, width-table, names-view}
@@ -161,14 +161,9 @@ module _ (d : Draft) where
   set-fields : (i j : ℕ) → isView d i ≡ true → isView d j ≡ true → LegalSet (length (d .tables)) (schemasOf d) i j
   set-fields i j p q = record { left = rw (count-schemas d) (names-view d i p); right = rw (count-schemas d) (names-view d j q) }
 
-  sound-union : Sound (one 5) (setFrame d View.union) itemBytes Fields
+  sound-set : (op : SetOperation) → Sound (one (setKind op)) (setFrame d op) itemBytes Fields
   unfolding viewBytes
-  sound-union =
-      sound-bind (sound-byteIf 6 (isView d)) (λ i p. sound-bind (sound-byteIf 6 (isView d)) (λ j q. sound-ending _ refl (set-fields i j p q)))
-
-  sound-intersection : Sound (one 6) (setFrame d View.intersection) itemBytes Fields
-  unfolding viewBytes
-  sound-intersection =
+  sound-set op =
       sound-bind (sound-byteIf 6 (isView d)) (λ i p. sound-bind (sound-byteIf 6 (isView d)) (λ j q. sound-ending _ refl (set-fields i j p q)))
 
   sound-goal : Sound (one 7) (goalFrame d) itemBytes Fields
@@ -178,5 +173,5 @@ module _ (d : Draft) where
 
   pub sound-frame : (k : ℕ) → 1 ≤ stageOf k → Sound (one k) (frame d k) itemBytes Fields
   sound-frame =
-      by-kind (λ k. Sound (one k) (frame d k) itemBytes Fields) sound-table sound-key sound-basic sound-grouped sound-union sound-intersection
-      sound-goal
+      by-kind (λ k. Sound (one k) (frame d k) itemBytes Fields) sound-table sound-key sound-basic sound-grouped
+      (sound-set SetOperation.union) (sound-set SetOperation.intersection) sound-goal

@@ -15,7 +15,7 @@ use lib.ListN.{length}
 use borrow.Author.Tests.{ne-eqb}
 use Rattle.value.specs.Bag.{All}
 use Rattle.value.proofs.Decides.{by-test}
-use Rattle.meaning.specs.Syntax.{View}
+use Rattle.meaning.specs.Syntax.{SetOperation, View}
 use Rattle.language.specs.Reading.{Read}
 use Rattle.meaning.specs.Bounds.{Schema, sameWidth, aggregatesFit, bounded, rangesFit}
 use Rattle.meaning.proofs.DecidedLists.{cons-all}
@@ -117,8 +117,8 @@ module _ (d : Draft) where
   step-back (Item.key k) o r h = check-lawful 2 _ o r (key-back d k (h .fields)) h
   step-back (Item.view (View.basic fs w es)) o r h = check-lawful 3 _ o r (basic-back d fs w es (h .fields)) h
   step-back (Item.view (View.grouped fs w gs v es)) o r h = check-lawful 4 _ o r (grouped-back d fs w gs v es (h .fields)) h
-  step-back (Item.view (View.union i j)) o r h = check-lawful 5 _ o r (set-back d View.union i j (h .fields)) h
-  step-back (Item.view (View.intersection i j)) o r h = check-lawful 6 _ o r (set-back d View.intersection i j (h .fields)) h
+  step-back (Item.view (View.set SetOperation.union i j)) o r h = check-lawful 5 _ o r (set-back d SetOperation.union i j (h .fields)) h
+  step-back (Item.view (View.set SetOperation.intersection i j)) o r h = check-lawful 6 _ o r (set-back d SetOperation.intersection i j (h .fields)) h
   step-back (Item.goal g) o r h = check-lawful 7 _ o r (goal-back d g h) h
 
   -- ---- any frame

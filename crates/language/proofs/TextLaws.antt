@@ -34,8 +34,7 @@ view-some : (q : View) → 1 ≤ length (viewBytes q)
 unfolding viewBytes
 view-some (View.basic fs w es) = omega arith
 view-some (View.grouped fs w gs h es) = omega arith
-view-some (View.union i j) = omega arith
-view-some (View.intersection i j) = omega arith
+view-some (View.set op i j) = omega arith
 
 -- each frame has at least its kind
 each-some : {A : Type 0} (f : A → List ℕ) → ((x : A) → 1 ≤ length (f x)) → (xs : List A) → All (λ g. 1 ≤ length g) (map f xs)

@@ -9,7 +9,7 @@ use lib.Signed.{leZ}
 use Rattle.value.specs.Bag.{countIf}
 use Rattle.value.specs.Integer.{bytesZ}
 use Rattle.value.specs.Value.{Column}
-use Rattle.meaning.specs.Syntax.{Place, View, Table, Pair, ForeignKey, Goal}
+use Rattle.meaning.specs.Syntax.{Place, SetOperation, View, Table, Pair, ForeignKey, Goal}
 use Rattle.language.specs.Reading.{Read, Reader, done, refuse, _>>=_, byte, byteIf, either, readE, readC}
 use Rattle.meaning.specs.Bounds.{sameWidth, aggregatesFit, bounded, rangesFit}
 use Rattle.language.specs.Draft.{Draft, Item, relationCount, isTable, isView, width, schemasOf}
@@ -81,8 +81,8 @@ groupedFrame d = fromList d >>= λ fs. field 0 4 >>= λ g. field 1 8 >>= λ n.
 
 -- ---- 05 union, 06 intersection: "two earlier views"
 
-abbrev pub setFrame : Draft → (ℕ → ℕ → View) → Reader Item
-setFrame d set = byteIf 6 (isView d) >>= λ i. byteIf 6 (isView d) >>= λ j. ending (Item.view (set i j))
+abbrev pub setFrame : Draft → SetOperation → Reader Item
+setFrame d op = byteIf 6 (isView d) >>= λ i. byteIf 6 (isView d) >>= λ j. ending (Item.view (View.set op i j))
 
 -- ---- 07 goal: "a view, sign (0 positive, 1 negative)"
 
@@ -97,8 +97,8 @@ frame d kind =
     (either (eqb kind 0x02) (keyFrame d)
     (either (eqb kind 0x03) (basicFrame d)
     (either (eqb kind 0x04) (groupedFrame d)
-    (either (eqb kind 0x05) (setFrame d View.union)
-    (either (eqb kind 0x06) (setFrame d View.intersection)
+    (either (eqb kind 0x05) (setFrame d SetOperation.union)
+    (either (eqb kind 0x06) (setFrame d SetOperation.intersection)
     (goalFrame d))))))
 
 abbrev pub noTable : Table

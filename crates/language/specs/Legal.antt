@@ -120,8 +120,7 @@ pub record LegalSet (t : ℕ) (ss : List Schema) (i j : ℕ) : Type 0 where
 abbrev pub ViewFields : ℕ → List Schema → View → Type 0
 ViewFields t ss (View.basic fs w es) = LegalBasic ss fs w es
 ViewFields t ss (View.grouped fs w gs h es) = LegalGrouped ss fs w gs h es
-ViewFields t ss (View.union i j) = LegalSet t ss i j
-ViewFields t ss (View.intersection i j) = LegalSet t ss i j
+ViewFields t ss (View.set op i j) = LegalSet t ss i j
 
 pub record LegalView (t : ℕ) (ss : List Schema) (q : View) : Type 0 where
   pub fields : ViewFields t ss q

@@ -6,7 +6,7 @@ use lib.ListN.{length}
 use Rattle.value.specs.Integer.{highByte, lowByte}
 use Rattle.value.specs.Value.{Column}
 use Rattle.meaning.specs.Lists.{joined}
-use Rattle.meaning.specs.Syntax.{Place, View, Table, Pair, ForeignKey, Goal, File}
+use Rattle.meaning.specs.Syntax.{Place, SetOperation, View, Table, Pair, ForeignKey, Goal, File}
 use Rattle.language.specs.Prefix.{encodeE, encodeC}
 
 -- "bit i of value 2^i means column i is in the primary key"
@@ -26,6 +26,11 @@ tableBytes t = 0x01 ∷ t .rows ∷ length (t .columns) ∷ maskOf (t .key) ∷ 
 unfoldable pub keyBytes : ForeignKey → List ℕ
 keyBytes k = 0x02 ∷ k .child ∷ k .parent ∷ length (k .pairs) ∷ joined (map (λ p. p .child ∷ p .parent ∷ []) (k .pairs))
 
+-- "05 union, 06 intersection"
+abbrev pub setKind : SetOperation → ℕ
+setKind SetOperation.union = 0x05
+setKind SetOperation.intersection = 0x06
+
 -- "03 basic view: from count .., that many earlier relations, select count .., a where condition, the select expressions", "04 aggregate
 -- view: from count and relations as in 03, grouping count .., select count .., where, the grouping columns .., having, the select
 -- expressions", "05 union, 06 intersection: two earlier views"
@@ -33,8 +38,7 @@ unfoldable pub viewBytes : View → List ℕ
 viewBytes (View.basic fs w es) = 0x03 ∷ length fs ∷ fs ++ (length es ∷ encodeC w ++ joined (map encodeE es))
 viewBytes (View.grouped fs w gs h es) =
     0x04 ∷ length fs ∷ fs ++ (length gs ∷ length es ∷ encodeC w ++ joined (map (λ p. p .item ∷ p .column ∷ []) gs) ++ encodeC h ++ joined (map encodeE es))
-viewBytes (View.union i j) = 0x05 ∷ i ∷ j ∷ []
-viewBytes (View.intersection i j) = 0x06 ∷ i ∷ j ∷ []
+viewBytes (View.set op i j) = setKind op ∷ i ∷ j ∷ []
 
 -- "07 goal: a view, sign (0 positive, 1 negative)"
 unfoldable pub goalBytes : Goal → List ℕ

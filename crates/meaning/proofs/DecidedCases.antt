@@ -1,7 +1,7 @@
 -- A database is a case by the paper's definitions exactly when `isCase` says so: demand 2, on cases. Assumes nothing.
 use mathlib.Core.Path.{_≡_, refl, ap₂}
 use mathlib.Core.Logic.{inl, inr, ⊎-elim}
-use mathlib.Core.Bool.{Bool, true, false, _&&_, _||_, cond}
+use mathlib.Core.Bool.{Bool, true, false, _&&_, cond}
 use mathlib.Core.List.{[], _∷_, map}
 use mathlib.Core.Option.{Option, none, some}
 use Prim.Native.Nat.{ℕ, zero, suc, _+_, _-_, _<_, _≤_}
@@ -13,10 +13,10 @@ use Rattle.value.specs.Bag.{All, Same}
 use Rattle.value.proofs.Decides.{Decides, and-dec, by-dec, dec-true, or-dec}
 use Rattle.meaning.specs.Algebra.{Bag, below, query}
 use Rattle.meaning.specs.Bounds.{aggregatesFit, earlier, everyView, names, schemas, tableSchema, viewSchema, wellFormed}
-use Rattle.meaning.specs.Cases.{Case, Inhabited, NTC, NonEmpty, PTC, PTC-query, Wanted, hasRow, isCase, negative, refuted, someRow, wanted}
+use Rattle.meaning.specs.Cases.{Case, Inhabited, NTC, NonEmpty, PTC, PTC-query, Wanted, hasRow, isCase, negative, refuted, setNegative, someRow, wanted}
 use Rattle.meaning.specs.Evaluation.{rowTest}
 use Rattle.meaning.specs.Rows.{rows, rowsOf}
-use Rattle.meaning.specs.Syntax.{Database, File, Goal, View}
+use Rattle.meaning.specs.Syntax.{Database, File, Goal, SetOperation, View}
 use Rattle.meaning.specs.Valid.{Valid, valid}
 use Rattle.meaning.proofs.DecidedLists.{T-dec, all-dec, any-dec, cons-all, each-length, isPos-dec, ltb-dec}
 use Rattle.meaning.proofs.DecidedValidity.{valid-dec}
@@ -68,8 +68,7 @@ module _ (F : File) (d : Database) where
       → refuted M neg (some q) ≡ refuted M neg′ (some q)
   refuted-cong M neg neg′ v h (View.basic fs w ss) b = refl
   refuted-cong M neg neg′ v h (View.grouped fs w gs c ss) b = refl
-  refuted-cong M neg neg′ v h (View.union i j) b = ap₂ _&&_ (h i (both-earlier b .0)) (h j (both-earlier b .1))
-  refuted-cong M neg neg′ v h (View.intersection i j) b = ap₂ _||_ (h i (both-earlier b .0)) (h j (both-earlier b .1))
+  refuted-cong M neg neg′ v h (View.set op i j) b = ap₂ (setNegative op) (h i (both-earlier b .0)) (h j (both-earlier b .1))
 
   module _ (s : Stacked (length d) F) where
     -- any bound above v will do, so a program may note each relation's answer in turn
@@ -135,9 +134,9 @@ module _ (F : File) (wf : wellFormed F ≡ true) (d : Database) where
         go ih (some (View.basic fs w ss)) e t = NTC.basic e (negated-dec v e _ (λ t. t) .sound t)
         go ih (some (View.grouped fs w gs h ss)) e t = NTC.grouped e
             (or-dec (negated-dec v e _ (λ t. t)) (or-dec (negated-dec v e _ (λ t. t)) (negated-dec v e _ (λ t. t))) .sound t)
-        go ih (some (View.union i j)) e t =
+        go ih (some (View.set SetOperation.union i j)) e t =
             let x = and-dec (T-dec (negative F d n i)) (T-dec (negative F d n j)) .sound t in NTC.union e (ih i (x .0)) (ih j (x .1))
-        go ih (some (View.intersection i j)) e t = ⊎-elim (λ x. NTC.intersection-left e (ih i x)) (λ x. NTC.intersection-right e (ih j x))
+        go ih (some (View.set SetOperation.intersection i j)) e t = ⊎-elim (λ x. NTC.intersection-left e (ih i x)) (λ x. NTC.intersection-right e (ih j x))
             (or-dec (T-dec (negative F d n i)) (T-dec (negative F d n j)) .sound t)
 
     negative-complete : Stacked (length d) F → (n v : ℕ) → v < n → NTC F d v → T (negative F d n v)
@@ -146,13 +145,13 @@ module _ (F : File) (wf : wellFormed F ≡ true) (d : Database) where
     negative-complete s (suc n) v l (NTC.grouped e x) = rw e
         (or-dec (negated-dec v e _ (λ t. t)) (or-dec (negated-dec v e _ (λ t. t)) (negated-dec v e _ (λ t. t))) .complete x)
     negative-complete s (suc n) v l (NTC.union {i = i} {j = j} e x y) =
-        let b = both-earlier (s .earlier v (View.union i j) e) in
+        let b = both-earlier (s .earlier v (View.set SetOperation.union i j) e) in
         rw e (and-dec (T-dec (negative F d n i)) (T-dec (negative F d n j)) .complete (negative-complete s n i (omega arith) x, negative-complete s n j (omega arith) y))
     negative-complete s (suc n) v l (NTC.intersection-left {i = i} {j = j} e x) =
-        let b = both-earlier (s .earlier v (View.intersection i j) e) in
+        let b = both-earlier (s .earlier v (View.set SetOperation.intersection i j) e) in
         rw e (or-dec (T-dec (negative F d n i)) (T-dec (negative F d n j)) .complete (inl (negative-complete s n i (omega arith) x)))
     negative-complete s (suc n) v l (NTC.intersection-right {i = i} {j = j} e x) =
-        let b = both-earlier (s .earlier v (View.intersection i j) e) in
+        let b = both-earlier (s .earlier v (View.set SetOperation.intersection i j) e) in
         rw e (or-dec (T-dec (negative F d n i)) (T-dec (negative F d n j)) .complete (inr (negative-complete s n j (omega arith) x)))
 
   pub NTC-dec : Stacked (length d) F → (v : ℕ) → Decides (someRow d && negative F d (suc v) v) (NTC F d v)

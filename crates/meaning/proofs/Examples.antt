@@ -14,7 +14,7 @@ use Rattle.meaning.specs.Algebra.{MeaningOf}
 use Rattle.meaning.specs.Bounds.{wellFormed}
 use Rattle.meaning.specs.Cases.{Case, isCase, someRow}
 use Rattle.meaning.specs.Rows.{rows}
-use Rattle.meaning.specs.Syntax.{Cond, Database, Expr, File, Row, View}
+use Rattle.meaning.specs.Syntax.{Cond, Database, Expr, File, Row, SetOperation, View}
 use Rattle.meaning.specs.Valid.{valid}
 use Rattle.meaning.proofs.Demand2.{cases}
 use Rattle.meaning.proofs.Relations.{rows-mean}
@@ -62,7 +62,7 @@ mixed =
       views =
           View.basic (0 ∷ []) (above 3 a) (a ∷ [])
           ∷ View.grouped (0 ∷ []) Cond.always [] (above 9 sumOver) (sumOver ∷ [])
-          ∷ View.union 1 2
+          ∷ View.set SetOperation.union 1 2
           ∷ [];
       goal = record { view = 3; negative = true };
     }

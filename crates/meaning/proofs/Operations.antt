@@ -8,12 +8,12 @@ use native.Mathlib.Omega.{arith}
 use lib.ListN.{getD}
 use Rattle.value.specs.Bag.{Same, Test, count, tick}
 use Rattle.value.proofs.Decides.{and-parts, by-test}
-use Rattle.meaning.specs.Algebra.{Bag, Groups, IsGroup, IsGrouping, IsProduct, IsProjection, IsSelection, Means, groupCount, over, times}
+use Rattle.meaning.specs.Algebra.{Bag, Groups, IsGroup, IsGrouping, IsProduct, IsProjection, IsSelection, IsSet, Means, groupCount, multiplicity, over, times}
 use Rattle.meaning.specs.Bounds.{aggregatesFit, allowedC, allowedE, anyColumn, groupingColumn}
 use Rattle.meaning.specs.Evaluation.{cell, combinationTest, keyOf, rowTest, satisfies}
 use Rattle.meaning.specs.Lists.{all, combinations, gate, keep, pairs}
-use Rattle.meaning.specs.Rows.{kept, keys, members, relations, rowsOf, spread, together}
-use Rattle.meaning.specs.Syntax.{Combination, Place, Row, View}
+use Rattle.meaning.specs.Rows.{kept, keys, members, relations, rowsOf, setRows, spread, together}
+use Rattle.meaning.specs.Syntax.{Combination, Place, Row, SetOperation, View}
 use Rattle.meaning.proofs.Alike.{Alike, alone-alike, satisfies-alike, selected-alike}
 use Rattle.meaning.proofs.ListBags.{all-count, count-append, count-common, count-first, count-firsts, count-keep, count-map, countIf-bag, countIf-where, gate-none, gate-some, same-refl}
 use Rattle.meaning.proofs.Spread.{group-member, key-members, spread-cell}
@@ -121,8 +121,7 @@ module _ {M M′ : ℕ → Bag} (h : (i : ℕ) → Same rowTest (M i) (M′ i)) 
       λ x l. let l′ = rw (hG .at x) at l in group-alike hS (r .group-of x l) (r .member-of x l) (r′ .group-of x l′) (r′ .member-of x l′) in
       let hH = selection-one hG (selection-where (λ x l. satisfies-alike true (same x l) c (f .having)) k) k′ in
       projection-one hH (projection-where rowTest (λ x l. selected-alike true (same x (selection-of k x l)) ss (f .select)) b) b′
-  answer-one (View.union i j) t b b′ = record { at = λ μ. b .at μ ∙ ap₂ _+_ (h i .at μ) (h j .at μ) ∙ sym (b′ .at μ) }
-  answer-one (View.intersection i j) t b b′ = record { at = λ μ. b .at μ ∙ ap₂ min (h i .at μ) (h j .at μ) ∙ sym (b′ .at μ) }
+  answer-one (View.set op i j) t b b′ = record { at = λ μ. b .at μ ∙ ap₂ (multiplicity op) (h i .at μ) (h j .at μ) ∙ sym (b′ .at μ) }
 
 -- ---- the ordered operations are the algebra's
 
@@ -140,6 +139,10 @@ grouping-sound gs R = let g = keyOf gs in record { at = λ k. count-firsts rowTe
 
 group-sound : (gs : List Place) (R : List Combination) (k : Row) → IsGroup gs R k (members gs R k)
 group-sound gs R k = record { at = λ m. count-keep combinationTest (λ x. rowTest .same k (keyOf gs x)) m R }
+
+set-sound : (op : SetOperation) (R S : Bag) → IsSet op R S (setRows op R S)
+set-sound SetOperation.union R S = record { at = λ μ. count-append (rowTest .same μ) R S }
+set-sound SetOperation.intersection R S = record { at = λ μ. count-common rowTest μ R S }
 
 -- each group with its first member
 abbrev leader : List Place → List Combination → Row → Combination
@@ -187,8 +190,7 @@ answer-rows M (View.grouped fs w gs c ss) t =
       selection-where (λ x l. satisfies-alike true (together-alike M gs S x l) c (f .having)) k,
       projection-where rowTest (λ x l. selected-alike true (together-alike M gs S x (selection-of k x l)) ss (f .select)) (projection-sound _ _),
     )
-answer-rows M (View.union i j) t = record { at = λ μ. count-append (rowTest .same μ) (M i) (M j) }
-answer-rows M (View.intersection i j) t = record { at = λ μ. count-common rowTest μ (M i) (M j) }
+answer-rows M (View.set op i j) t = set-sound op (M i) (M j)
 
 -- so they give one bag over the same bags
 pub rows-one : {M M′ : ℕ → Bag} → ((i : ℕ) → Same rowTest (M i) (M′ i)) → (q : View) → aggregatesFit [] q ≡ true → Same rowTest (rowsOf M q) (rowsOf M′ q)

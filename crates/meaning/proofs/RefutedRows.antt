@@ -27,8 +27,7 @@ Grouped = (ℕ → List Row) → List Place → Cond → List Expr → List Comb
 abbrev viewRows : Grouped → (ℕ → List Row) → View → List Row
 viewRows groups M (View.basic fs w ss) = rowsOf M (View.basic fs w ss)
 viewRows groups M (View.grouped fs w gs h ss) = groups M gs h ss (kept M fs w)
-viewRows groups M (View.union i j) = rowsOf M (View.union i j)
-viewRows groups M (View.intersection i j) = rowsOf M (View.intersection i j)
+viewRows groups M (View.set op i j) = rowsOf M (View.set op i j)
 
 abbrev fileRows : Grouped → File → Database → ℕ → List Row
 fileRows groups F d v = relation (stack (λ rs q. viewRows groups (relation rs) q) (F .views) d) v

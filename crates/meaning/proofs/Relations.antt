@@ -49,8 +49,7 @@ below-one n h i = by-lt i n (λ e l. rw e (h i l)) (λ e l. rw e same-refl)
 fits-alone : (ss : List Schema) (q : View) → aggregatesFit ss q ≡ aggregatesFit [] q
 fits-alone ss (View.basic fs w es) = refl
 fits-alone ss (View.grouped fs w gs h es) = refl
-fits-alone ss (View.union i j) = refl
-fits-alone ss (View.intersection i j) = refl
+fits-alone ss (View.set op i j) = refl
 
 pub same-tables : (d : Database) → SameTables d d
 same-tables d = record { size = refl; table = λ t. same-refl }

@@ -12,7 +12,7 @@ use Rattle.value.proofs.Bags.{nil-only, pulled, same-tail}
 use Rattle.value.proofs.Decides.{by-test, and-cross}
 use Rattle.meaning.specs.Algebra.{Bag, SameTables, below, query}
 use Rattle.meaning.specs.Bounds.{aggregatesFit, wellFormed}
-use Rattle.meaning.specs.Cases.{hasRow, isCase, negative, refuted, someRow}
+use Rattle.meaning.specs.Cases.{hasRow, isCase, negative, refuted, setNegative, someRow}
 use Rattle.meaning.specs.Evaluation.{rowTest}
 use Rattle.meaning.specs.Lists.{all, any, each, isPos, pairwise}
 use Rattle.meaning.specs.Rows.{rows, rowsOf}
@@ -106,8 +106,7 @@ module _ (d d′ : Database) (s : SameTables d d′) where
             let l = query-lt F d v (View.grouped fs w gs h ss) e in
             ap₂ _||_ (query-order v (View.grouped fs (Cond.negated w) gs h ss) t l)
             (ap₂ _||_ (query-order v (View.grouped fs w gs (Cond.negated h) ss) t l) (query-order v (View.grouped fs (Cond.negated w) gs (Cond.negated h) ss) t l))
-        go ih (some (View.union i j)) e = ap₂ _&&_ (ih i) (ih j)
-        go ih (some (View.intersection i j)) e = ap₂ _||_ (ih i) (ih j)
+        go ih (some (View.set op i j)) e = ap₂ (setNegative op) (ih i) (ih j)
 
     pub case-order : (g : Goal) → g .view < length d + length (F .views) → isCase F g d ≡ isCase F g d′
     unfolding isCase

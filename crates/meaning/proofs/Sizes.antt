@@ -11,7 +11,8 @@ use Rattle.value.proofs.Decides.{by-test}
 use Rattle.range.specs.declared.Range.{Range}
 use Rattle.meaning.proofs.ListSteps.{length-pairs}
 use Rattle.meaning.specs.Lists.{Any, isPos, keep, firsts, common, combinations}
-use Rattle.meaning.specs.Bounds.{hulls}
+use Rattle.meaning.specs.Syntax.{SetOperation}
+use Rattle.meaning.specs.Bounds.{hulls, setBound, setRanges}
 
 -- the product of the bounds bounds the combinations
 pub combinations-bound : {A B : Type 0} (f : A → List B) (n : A → ℕ) {xs : List A} → All (λ x. length (f x) ≤ n x) xs
@@ -24,6 +25,17 @@ pub length-hulls : (as′ bs : List Range) → length (hulls as′ bs) ≡ min (
 length-hulls [] bs = omega arith
 length-hulls (a ∷ as′) [] = omega arith
 length-hulls (a ∷ as′) (b ∷ bs) = omega (arith, length-hulls as′ bs)
+
+-- as many columns as the left, unless the right has fewer
+pub length-setRanges : (op : SetOperation) (as′ bs : List Range)
+    → (length (setRanges op as′ bs) ≤ length as′) × (length as′ ≤ length bs → length (setRanges op as′ bs) ≡ length as′)
+length-setRanges SetOperation.union as′ bs = let h = length-hulls as′ bs in (omega arith, λ l. omega arith)
+length-setRanges SetOperation.intersection as′ bs = (omega arith, λ l. omega arith)
+
+-- a row bound grows with those that it is made of
+pub setBound-more : (op : SetOperation) {a b c d : ℕ} → a ≤ c → b ≤ d → setBound op a b ≤ setBound op c d
+setBound-more SetOperation.union h k = omega arith
+setBound-more SetOperation.intersection h k = omega arith
 
 module _ {A : Type 0} where
   pub length-keep : (p : A → Bool) (xs : List A) → length (keep p xs) ≤ length xs

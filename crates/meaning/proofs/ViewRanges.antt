@@ -14,7 +14,7 @@ use Rattle.range.specs.Ranges.{Inside, constantOf}
 use Rattle.range.specs.declared.Range.{Range}
 use Rattle.range.proofs.Soundness.{constant-inside, hull-left, hull-right}
 use Rattle.meaning.specs.Lists.{Any, Each, all, keep, combinations}
-use Rattle.meaning.specs.Syntax.{Expr, Cond, View, Place, Row, Combination}
+use Rattle.meaning.specs.Syntax.{Expr, Cond, SetOperation, View, Place, Row, Combination}
 use Rattle.meaning.specs.Evaluation.{rowTest, missing, alone, satisfies, selected, keyOf}
 use Rattle.meaning.specs.Rows.{keys, together, kept, rowsOf}
 use Rattle.meaning.specs.Bounds.{Schema, schema, itemRanges, productBound, withinE, withinC, hulls, viewSchema, names, sameWidth, allowedE, allowedC, anyColumn, groupingColumn, aggregatesFit, rangesFit}
@@ -80,8 +80,8 @@ module _ (ss : List Schema) (M : ℕ → List Row) where
         length-keep (λ m. satisfies w (alone M m)) (combinations (map M fs)),
         combinations-bound M (λ i. schema ss i .bound) n,
       ))
-  view-size (View.union i j) (All.cons l (All.cons r All.nil)) = rw (length-append (M i) (M j)) (omega arith)
-  view-size (View.intersection i j) (All.cons l (All.cons r All.nil)) = omega (arith, length-common rowTest (M i) (M j))
+  view-size (View.set SetOperation.union i j) (All.cons l (All.cons r All.nil)) = rw (length-append (M i) (M j)) (omega arith)
+  view-size (View.set SetOperation.intersection i j) (All.cons l (All.cons r All.nil)) = omega (arith, length-common rowTest (M i) (M j))
 
   -- the relations that are named lie in their bounds
   abbrev pub Named : List ℕ → Type 0
@@ -130,10 +130,10 @@ module _ (ss : List Schema) (M : ℕ → List Row) where
       all-image (λ k. selected es (together M gs S k))
       (λ k m. selected-inside I R (groupingColumn gs) true (together M gs S k) (together-covered n gs chosen k m) es (group-fits w gs h es a .select))
       (all-keep (λ k. satisfies h (together M gs S k)) (key-members gs S))
-  view-values (View.union i j) (All.cons l (All.cons r All.nil)) s a =
+  view-values (View.set SetOperation.union i j) (All.cons l (All.cons r All.nil)) s a =
       let e = dec-true (eqb-dec (length (schema ss i .ranges)) (length (schema ss j .ranges))) s in
       all-append (all-map (λ v is. hulls-left (schema ss j .ranges) e is) (l .values)) (all-map (λ v is. hulls-right (schema ss i .ranges) e is) (r .values))
-  view-values (View.intersection i j) (All.cons l (All.cons r All.nil)) s a = all-common rowTest (M j) (l .values)
+  view-values (View.set SetOperation.intersection i j) (All.cons l (All.cons r All.nil)) s a = all-common rowTest (M j) (l .values)
 
   pub view-bounds : (q : View) → Named (names q) → sameWidth ss q ≡ true → aggregatesFit ss q ≡ true → InBounds (viewSchema ss q) (rowsOf M q)
   view-bounds q n s a = record { size = view-size q (sizes n); values = view-values q n s a }
@@ -160,5 +160,4 @@ module _ (ss : List Schema) (M : ℕ → List Row) where
         having = λ {S} x. all-map (λ k m. clear-condition I R (groupingColumn gs) true (together M gs S k) (together-covered n gs x k m) h (f .having) r₂) (key-members gs S);
         select = λ {S} x. all-map (λ k m. selected-clear I R (groupingColumn gs) true (together M gs S k) (together-covered n gs x k m) es (f .select) r₃) (key-members gs S);
       }
-  view-clear (View.union i j) n a r = tt
-  view-clear (View.intersection i j) n a r = tt
+  view-clear (View.set op i j) n a r = tt

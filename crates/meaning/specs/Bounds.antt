@@ -11,7 +11,7 @@ use Rattle.value.specs.Value.{Column}
 use Rattle.range.specs.Ranges.{within32, constantOf, columnOf, hullOf, operatedOf, roundedOf, aggregatedOf}
 use Rattle.range.specs.declared.Range.{Range}
 use Rattle.meaning.specs.Lists.{all, any, each, stack, stackAll}
-use Rattle.meaning.specs.Syntax.{Expr, Cond, View, Place, Table, Goal, File}
+use Rattle.meaning.specs.Syntax.{Expr, Cond, SetOperation, View, Place, Table, Goal, File}
 
 -- ---- what the file alone tells of a relation
 
@@ -74,14 +74,22 @@ hulls [] bs = []
 hulls (a ∷ as′) [] = []
 hulls (a ∷ as′) (b ∷ bs) = hullOf a b ∷ hulls as′ bs
 
--- "A column of 03 or 04 has its select expression's range. Union columns take hulls; intersection keeps the left's"
+-- "union, the sum; intersection, the smaller"
+abbrev pub setBound : SetOperation → ℕ → ℕ → ℕ
+setBound SetOperation.union a b = a + b
+setBound SetOperation.intersection a b = min a b
+
+-- "Union columns take hulls; intersection keeps the left's"
+abbrev pub setRanges : SetOperation → List Range → List Range → List Range
+setRanges SetOperation.union as′ bs = hulls as′ bs
+setRanges SetOperation.intersection as′ bs = as′
+
+-- "A column of 03 or 04 has its select expression's range"
 abbrev pub viewSchema : List Schema → View → Schema
 viewSchema ss (View.basic fs w es) = let R = productBound ss fs in record { bound = R; ranges = map (range (itemRanges ss fs) R) es }
 viewSchema ss (View.grouped fs w gs h es) = let R = productBound ss fs in record { bound = R; ranges = map (range (itemRanges ss fs) R) es }
-viewSchema ss (View.union i j) =
-    record { bound = schema ss i .bound + schema ss j .bound; ranges = hulls (schema ss i .ranges) (schema ss j .ranges) }
-viewSchema ss (View.intersection i j) =
-    record { bound = min (schema ss i .bound) (schema ss j .bound); ranges = schema ss i .ranges }
+viewSchema ss (View.set op i j) =
+    record { bound = setBound op (schema ss i .bound) (schema ss j .bound); ranges = setRanges op (schema ss i .ranges) (schema ss j .ranges) }
 
 -- the schema of each relation, tables first
 abbrev pub schemas : File → List Schema
@@ -93,8 +101,7 @@ schemas F = stack viewSchema (F .views) (map tableSchema (F .tables))
 abbrev pub names : View → List ℕ
 names (View.basic fs w ss) = fs
 names (View.grouped fs w gs h ss) = fs
-names (View.union i j) = i ∷ j ∷ []
-names (View.intersection i j) = i ∷ j ∷ []
+names (View.set op i j) = i ∷ j ∷ []
 
 -- 6: "earlier relations". That the operands of a set view are views is asked of a legal file (`Legal` of rules); the theorems need less
 abbrev pub earlier : List Schema → View → Bool
@@ -103,8 +110,7 @@ earlier ss q = all (λ i. ltb i (length ss)) (names q)
 abbrev pub sameWidth : List Schema → View → Bool
 sameWidth ss (View.basic fs w es) = true
 sameWidth ss (View.grouped fs w gs h es) = true
-sameWidth ss (View.union i j) = eqb (length (schema ss i .ranges)) (length (schema ss j .ranges))
-sameWidth ss (View.intersection i j) = eqb (length (schema ss i .ranges)) (length (schema ss j .ranges))
+sameWidth ss (View.set op i j) = eqb (length (schema ss i .ranges)) (length (schema ss j .ranges))
 
 -- 7: "Token 07 may stand only in the having and select of an aggregate view, and not inside another 07. There, a column outside 07 must
 -- be a grouping column." `columns` says which columns may stand outside 07, and `aggregates` whether 07 may stand
@@ -136,8 +142,7 @@ abbrev pub aggregatesFit : List Schema → View → Bool
 aggregatesFit ss (View.basic fs w es) = allowedC anyColumn false w && all (allowedE anyColumn false) es
 aggregatesFit ss (View.grouped fs w gs h es) =
     allowedC anyColumn false w && (allowedC (groupingColumn gs) true h && all (allowedE (groupingColumn gs) true) es)
-aggregatesFit ss (View.union i j) = true
-aggregatesFit ss (View.intersection i j) = true
+aggregatesFit ss (View.set op i j) = true
 
 -- 8: "Each is at most 64"
 abbrev pub bounded : List Schema → View → Bool
@@ -150,8 +155,7 @@ rangesFit ss (View.grouped fs w gs h es) =
     let R = productBound ss fs in
     let I = itemRanges ss fs in
     withinC I R w && (withinC I R h && all (withinE I R) es)
-rangesFit ss (View.union i j) = true
-rangesFit ss (View.intersection i j) = true
+rangesFit ss (View.set op i j) = true
 
 -- ---- a well-formed file
 

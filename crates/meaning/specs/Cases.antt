@@ -10,7 +10,7 @@ use Prim.Native.Nat.{ℕ, zero, suc, _<_}
 use lib.ListN.{length}
 use Rattle.value.specs.Bag.{count}
 use Rattle.meaning.specs.Lists.{Any, isPos, any}
-use Rattle.meaning.specs.Syntax.{Expr, Cond, View, Place, Goal, File, Row, Database}
+use Rattle.meaning.specs.Syntax.{Expr, Cond, SetOperation, View, Place, Goal, File, Row, Database}
 use Rattle.meaning.specs.Evaluation.{rowTest}
 use Rattle.meaning.specs.Rows.{rowsOf, rows}
 use Rattle.meaning.specs.Algebra.{Bag, query, below, Means, IsMeaning, MeaningOf}
@@ -43,9 +43,9 @@ module _ (F : File) (d : Database) where
         ⊎ (PTC-query v (View.grouped fs w gs (Cond.negated h) ss) ⊎ PTC-query v (View.grouped fs (Cond.negated w) gs (Cond.negated h) ss))
         → NTC v
     -- Definition 4: union "if d is a NTC for both", intersection "if d is a NTC for either"
-    union : {v i j : ℕ} → query (length d) F v ≡ some (View.union i j) → NTC i → NTC j → NTC v
-    intersection-left : {v i j : ℕ} → query (length d) F v ≡ some (View.intersection i j) → NTC i → NTC v
-    intersection-right : {v i j : ℕ} → query (length d) F v ≡ some (View.intersection i j) → NTC j → NTC v
+    union : {v i j : ℕ} → query (length d) F v ≡ some (View.set SetOperation.union i j) → NTC i → NTC j → NTC v
+    intersection-left : {v i j : ℕ} → query (length d) F v ≡ some (View.set SetOperation.intersection i j) → NTC i → NTC v
+    intersection-right : {v i j : ℕ} → query (length d) F v ≡ some (View.set SetOperation.intersection i j) → NTC j → NTC v
 
   -- "sign (0 positive, 1 negative)"
   abbrev pub Wanted : Bool → ℕ → Type 0
@@ -65,6 +65,11 @@ hasRow B = isPos (length B)
 unfoldable pub someRow : Database → Bool
 someRow d = any hasRow d
 
+-- Definition 4: a union's operands are both negative, an intersection has a negative operand
+abbrev pub setNegative : SetOperation → Bool → Bool → Bool
+setNegative SetOperation.union a b = a && b
+setNegative SetOperation.intersection a b = a || b
+
 -- whether a query is negative over the relations M, where `neg` says it of the relations themselves
 abbrev pub refuted : (ℕ → Bag) → (ℕ → Bool) → Option View → Bool
 refuted M neg none = false
@@ -73,8 +78,7 @@ refuted M neg (some (View.grouped fs w gs h ss)) =
     hasRow (rowsOf M (View.grouped fs (Cond.negated w) gs h ss))
     || (hasRow (rowsOf M (View.grouped fs w gs (Cond.negated h) ss))
     || hasRow (rowsOf M (View.grouped fs (Cond.negated w) gs (Cond.negated h) ss)))
-refuted M neg (some (View.union i j)) = neg i && neg j
-refuted M neg (some (View.intersection i j)) = neg i || neg j
+refuted M neg (some (View.set op i j)) = setNegative op (neg i) (neg j)
 
 -- the first argument is above v: set views join earlier ones
 abbrev pub negative : File → Database → ℕ → ℕ → Bool

@@ -57,8 +57,7 @@ pub record GroupedClear (M : ℕ → List Row) (fs : List ℕ) (w : Cond) (gs : 
 abbrev pub ViewClear : (ℕ → List Row) → View → Type 0
 ViewClear M (View.basic fs w es) = BasicClear M fs w es
 ViewClear M (View.grouped fs w gs h es) = GroupedClear M fs w gs h es
-ViewClear M (View.union i j) = Unit {0}
-ViewClear M (View.intersection i j) = Unit {0}
+ViewClear M (View.set op i j) = Unit {0}
 
 -- ---- relations
 

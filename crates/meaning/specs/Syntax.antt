@@ -30,13 +30,17 @@ pub record Place : Type 0 where
   pub item : ℕ
   pub column : ℕ
 
+-- "05 union, 06 intersection"
+pub data SetOperation : Type 0 where
+  union intersection : SetOperation
+
 pub data View : Type 0 where
   -- from list, where, select
   basic : List ℕ → Cond → List Expr → View
   -- from list, where, grouping columns, having, select
   grouped : List ℕ → Cond → List Place → Cond → List Expr → View
   -- "two earlier views"
-  union intersection : ℕ → ℕ → View
+  set : SetOperation → ℕ → ℕ → View
 
 -- "rows, columns, key mask": `key` says of each column whether it is in the primary key
 pub record Table : Type 0 where

@@ -9,7 +9,7 @@ use lib.Dec.{ltb, eqb}
 use lib.ListN.{length, getD, List·getD-append}
 use borrow.Author.Tests.{ltb-true, ltb-false}
 use Rattle.value.proofs.Decides.{by-test}
-use Rattle.meaning.specs.Syntax.{View}
+use Rattle.meaning.specs.Syntax.{SetOperation}
 use Rattle.language.specs.Reading.{Read, Reader, _>>=_, either, byteIf, readE, readC}
 use Rattle.language.proofs.Readers.{then-ok}
 use Rattle.meaning.proofs.Stacks.{length-snoc}
@@ -81,8 +81,8 @@ module _ (d : Draft) where
       yields-after (readC cols) (λ w. yields-after (times g (placeField cols)) (λ gs.
       yields-after (readC cols) (λ h. yields-after (times n (readE cols)) (λ es. yields-ending _ tt)))))))
 
-  set-fits : (set : ℕ → ℕ → View) → Yields ItemFits (setFrame d set)
-  set-fits set = yields-after (byteIf 6 (isView d)) (λ i. yields-after (byteIf 6 (isView d)) (λ j. yields-ending _ tt))
+  set-fits : (op : SetOperation) → Yields ItemFits (setFrame d op)
+  set-fits op = yields-after (byteIf 6 (isView d)) (λ i. yields-after (byteIf 6 (isView d)) (λ j. yields-ending _ tt))
 
   goal-fits : Yields ItemFits (goalFrame d)
   goal-fits = yields-after (byteIf 6 (isView d)) (λ v. yields-after (field 0 1) (λ s. yields-ending _ tt))
@@ -93,8 +93,8 @@ module _ (d : Draft) where
       (yields-either (eqb kind 0x02) key-fits
       (yields-either (eqb kind 0x03) basic-fits
       (yields-either (eqb kind 0x04) grouped-fits
-      (yields-either (eqb kind 0x05) (set-fits View.union)
-      (yields-either (eqb kind 0x06) (set-fits View.intersection)
+      (yields-either (eqb kind 0x05) (set-fits SetOperation.union)
+      (yields-either (eqb kind 0x06) (set-fits SetOperation.intersection)
       goal-fits)))))
 
 -- ---- drafts

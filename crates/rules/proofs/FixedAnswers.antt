@@ -1,10 +1,10 @@
 -- What the code answers is what it promises: the first of the faults that it joins, for every draft that its arrays and counts stand for.
 -- Assumes nothing.
 use mathlib.Core.Path.{_≡_, refl, sym, ap, ap₂, _∙_}
-use mathlib.Core.Bool.{Bool}
 use mathlib.Core.List.{List}
 use Prim.Native.Nat.{ℕ, _+_, _*_, _^_, min}
 use lib.ListN.{getD}
+use Rattle.meaning.specs.Syntax.{SetOperation}
 use Rattle.language.specs.Reading.{byteIf}
 use Rattle.bounds.specs.Catalog.{widthAt, boundAt, maskAt}
 use Rattle.language.specs.Frames.{ending}
@@ -38,15 +38,15 @@ module _ (frame : List ℕ) where
 
     module _ (count : ℕ) where
       -- of relations with v and w columns and the row bounds a and b
-      pub set-answer : (shape : List ℕ) (union : Bool) (v w a b : ℕ) {r : ℕ}
+      pub set-answer : (shape : List ℕ) (op : SetOperation) (v w a b : ℕ) {r : ℕ}
           → v ≡ widthAt shape (getD frame 1 0) → w ≡ widthAt shape (getD frame 2 0)
           → a ≡ boundAt shape (getD frame 1 0) → b ≡ boundAt shape (getD frame 2 0)
           → r ≡ first (faultAt frame 1 (byteIf 6 (fromUnder tables count)))
           (first (faultAt frame 2 (byteIf 6 (fromUnder tables count)))
-          (first (faultAt frame 3 (ending {A = ℕ} 3)) (setRules union v w a b)))
-          → SetFault frame shape tables count union r
-      set-answer shape union v w a b i j k l e =
-          record { at = λ d ends known t n. e ∙ rw (i, j, k, l, t, n) (sym (set-law known frame union)) }
+          (first (faultAt frame 3 (ending {A = ℕ} 3)) (setRules op v w a b)))
+          → SetFault frame shape tables count op r
+      set-answer shape op v w a b i j k l e =
+          record { at = λ d ends known t n. e ∙ rw (i, j, k, l, t, n) (sym (set-law known frame op)) }
 
       pub goal-answer : {r : ℕ} → r ≡ first (faultAt frame 1 (byteIf 6 (fromUnder tables count)))
           (first (faultAt frame 2 (byteIf 5 (within 0 1))) (faultAt frame 3 (ending {A = ℕ} 3)))

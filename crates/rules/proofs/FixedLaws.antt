@@ -14,7 +14,7 @@ use borrow.Author.Tests.{leb-true, ltb-true}
 use Rattle.value.specs.Integer.{bytesZ}
 use Rattle.value.proofs.Decides.{by-test, and-parts}
 use Rattle.value.proofs.Places.{first-behind}
-use Rattle.meaning.specs.Syntax.{Pair}
+use Rattle.meaning.specs.Syntax.{Pair, SetOperation, View}
 use Rattle.language.specs.Reading.{Read, done, _>>=_, byteIf}
 use Rattle.meaning.specs.Bounds.{schema}
 use Rattle.bounds.specs.Catalog.{widthAt, boundAt, maskAt}
@@ -22,7 +22,7 @@ use Rattle.language.specs.Draft.{Draft, Item, width, relationCount, schemasOf}
 use Rattle.language.specs.Frames.{ending, times, columnField, pairField, tableFrame, keyFrame, setFrame, goalFrame, wholeFault, noTable}
 use Rattle.rules.specs.Faults.{faultOf, faultAt, first, under, within, fromUnder}
 use Rattle.rules.specs.Catalogued.{Catalogued, bodyFault}
-use Rattle.rules.specs.Layout.{columnsFault, pairsFault, pairing, setView, setBound, setRules, KeysFit}
+use Rattle.rules.specs.Layout.{columnsFault, pairsFault, pairing, setRules, KeysFit}
 use Rattle.rules.proofs.FieldLaws.{byte-then}
 use Rattle.language.proofs.Turns.{width-table}
 use Rattle.rules.proofs.CatalogLaws.{length-ranges}
@@ -126,24 +126,23 @@ module _ {d : Draft} {shape : List ℕ} {ends : List ℤ} (known : Catalogued d 
   pub bound-known : (i : ℕ) → schema (schemasOf d) i .bound ≡ boundAt shape i
   bound-known i = sym (ap (λ s. s .bound) (known .schemas i))
 
-  set-whole : (union : Bool) (i j : ℕ)
-      → wholeFault d (Item.view (setView union i j)) ≡ setRules union (widthAt shape i) (widthAt shape j) (boundAt shape i) (boundAt shape j)
-  unfolding setRules setBound
-  set-whole true i j = rw (width-known i, width-known j, bound-known i, bound-known j)
-  set-whole false i j = rw (width-known i, width-known j, bound-known i, bound-known j)
+  set-whole : (op : SetOperation) (i j : ℕ)
+      → wholeFault d (Item.view (View.set op i j)) ≡ setRules op (widthAt shape i) (widthAt shape j) (boundAt shape i) (boundAt shape j)
+  unfolding setRules
+  set-whole op i j = rw (width-known i, width-known j, bound-known i, bound-known j)
 
   module _ (frame : List ℕ) where
-    pub set-law : (union : Bool) → let i = getD frame 1 0 in let j = getD frame 2 0 in
-        bodyFault d (setFrame d (setView union)) frame
+    pub set-law : (op : SetOperation) → let i = getD frame 1 0 in let j = getD frame 2 0 in
+        bodyFault d (setFrame d op) frame
         ≡ first (faultAt frame 1 (byteIf 6 (fromUnder (length (d .tables)) (relationCount d))))
         (first (faultAt frame 2 (byteIf 6 (fromUnder (length (d .tables)) (relationCount d))))
         (first (faultAt frame 3 (ending {A = ℕ} 3))
-        (setRules union (widthAt shape i) (widthAt shape j) (boundAt shape i) (boundAt shape j))))
-    set-law union =
-        body-start d frame (setFrame d (setView union))
+        (setRules op (widthAt shape i) (widthAt shape j) (boundAt shape i) (boundAt shape j))))
+    set-law op =
+        body-start d frame (setFrame d op)
         ∙ body-byte d frame 1 6 (fromUnder (length (d .tables)) (relationCount d)) _ six
         ∙ ap (first _) (body-byte d frame 2 6 (fromUnder (length (d .tables)) (relationCount d)) _ six
-        ∙ ap (first _) (body-end d frame 3 _ ∙ ap (first _) (set-whole union (getD frame 1 0) (getD frame 2 0))))
+        ∙ ap (first _) (body-end d frame 3 _ ∙ ap (first _) (set-whole op (getD frame 1 0) (getD frame 2 0))))
 
     -- ---- 02 foreign key
 

@@ -10,15 +10,16 @@ use lib.ListN.{length, getD, drop}
 use lib.Seq.{getD-drop}
 use borrow.Author.Tests.{ltb-true, leb-true, eqb-true}
 use Rattle.value.proofs.Decides.{by-test, and-parts}
-use Rattle.meaning.specs.Syntax.{View, Goal}
+use Rattle.meaning.specs.Syntax.{SetOperation, View, Goal}
 use Rattle.language.specs.Reading.{Read, Reader, _>>=_, byteIf}
 use Rattle.meaning.specs.Bounds.{viewSchema, sameWidth, aggregatesFit, bounded, rangesFit}
 use Rattle.language.specs.Draft.{Draft, Item, added, relationCount, schemasOf, isView, stageOf, inOrder, hasRoom}
+use Rattle.language.specs.Written.{setKind}
 use Rattle.language.specs.Frames.{frame, wholeFault, ending, field, setFrame, goalFrame, basicFrame, groupedFrame}
 use Rattle.language.specs.Check.{wholeChecked, readChecked}
 use Rattle.rules.specs.Faults.{faultAt, faultOf}
 use Rattle.rules.specs.Catalogued.{Catalogued, checkedFault, bodyFault}
-use Rattle.rules.specs.Layout.{setView, TableFault, KeyFault, SetFault, GoalFault}
+use Rattle.rules.specs.Layout.{TableFault, KeyFault, SetFault, GoalFault}
 use Rattle.rules.specs.Entries.{putShape, TableEntered, SetEntered}
 use Rattle.rules.specs.ViewFaults.{BasicBytes, GroupedBytes}
 use Rattle.rules.specs.ViewRules.{Rules}
@@ -172,8 +173,8 @@ module _ {f : List ℕ} {s : State} {shape : List ℕ} {ends : List ℤ} {n : �
 -- ---- 05, 06
 
 -- the two relations that a set view names
-pub record SetRead (d : Draft) (set : ℕ → ℕ → View) (f : List ℕ) (i : Item) : Type 0 where
-  pub view : i ≡ Item.view (set (getD f 1 0) (getD f 2 0))
+pub record SetRead (d : Draft) (op : SetOperation) (f : List ℕ) (i : Item) : Type 0 where
+  pub view : i ≡ Item.view (View.set op (getD f 1 0) (getD f 2 0))
   pub left : getD f 1 0 < relationCount d
   pub right : getD f 2 0 < relationCount d
 
@@ -183,17 +184,17 @@ before d i t = ltb-true i (relationCount d) (and-parts (leb (length (d .tables))
 second-at : (f : List ℕ) → getD (drop 1 (drop 1 f)) 0 0 ≡ getD f 2 0
 second-at f = getD-drop 1 (drop 1 f) 0 0 ∙ getD-drop 1 f 1 0
 
-set-read : (d : Draft) (set : ℕ → ℕ → View) (f : List ℕ) (i : Item) → setFrame d set (drop 1 f) ≡ Read.ok i [] → SetRead d set f i
-set-read d set f i e =
+set-read : (d : Draft) (op : SetOperation) (f : List ℕ) (i : Item) → setFrame d op (drop 1 f) ≡ Read.ok i [] → SetRead d op f i
+set-read d op f i e =
     let bs = drop 1 f in
-    let (p, e₁) = byte-read 6 (isView d) bs (λ a. byteIf 6 (isView d) >>= λ b. ending (Item.view (set a b))) e in
+    let (p, e₁) = byte-read 6 (isView d) bs (λ a. byteIf 6 (isView d) >>= λ b. ending (Item.view (View.set op a b))) e in
     let a = getD bs 0 0 in
-    let (q, e₂) = byte-read 6 (isView d) (drop 1 bs) (λ b. ending (Item.view (set a b))) e₁ in
+    let (q, e₂) = byte-read 6 (isView d) (drop 1 bs) (λ b. ending (Item.view (View.set op a b))) e₁ in
     let b = getD (drop 1 bs) 0 0 in
     let first : a ≡ getD f 1 0 = getD-drop 1 f 0 0 in
     let second : b ≡ getD f 2 0 = second-at f ∙ refl in
     record {
-      view = sym (ending-read (Item.view (set a b)) i (drop 1 (drop 1 bs)) e₂) ∙ ap₂ (λ x y. Item.view (set x y)) first second;
+      view = sym (ending-read (Item.view (View.set op a b)) i (drop 1 (drop 1 bs)) e₂) ∙ ap₂ (λ x y. Item.view (View.set op x y)) first second;
       left = rw first at (before d a p);
       right = rw second at (before d b q);
     }
@@ -209,48 +210,36 @@ whole-bounded d q e =
     go true false c e z = absurd (omega arith)
     go false b c e z = absurd (omega arith)
 
-module _ (k : ℕ) (union : Bool) (same : (d : Draft) → frame d k ≡ setFrame d (setView union))
-    {f : List ℕ} {s : State} {shape : List ℕ} {ends : List ℤ} {n : ℕ} where
-  set-found : SetFault f shape (s .tables) (s .relations) union n → Found k f s shape ends n
-  set-found t = λ d h o r. t .at d ends (h .catalogued) (h .stands .tables) (h .stands .relations) ∙ ap (λ (m : Reader Item). bodyFault d m f) (sym (same d))
+set-frame : (op : SetOperation) (d : Draft) → frame d (setKind op) ≡ setFrame d op
+set-frame SetOperation.union d = refl
+set-frame SetOperation.intersection d = refl
 
-  set-refused : {s′ : State} {shape′ : List ℕ} {ends′ : List ℤ} → SetFault f shape (s .tables) (s .relations) union n → (n ≡ 0 → ⊥) → Turned k f s shape ends shape′ ends′ (stepAt n s′)
+module _ (op : SetOperation) {f : List ℕ} {s : State} {shape : List ℕ} {ends : List ℤ} {n : ℕ} where
+  set-found : SetFault f shape (s .tables) (s .relations) op n → Found (setKind op) f s shape ends n
+  set-found t = λ d h o r. t .at d ends (h .catalogued) (h .stands .tables) (h .stands .relations) ∙ ap (λ (m : Reader Item). bodyFault d m f) (sym (set-frame op d))
+
+  pub set-refused : {s′ : State} {shape′ : List ℕ} {ends′ : List ℤ} → SetFault f shape (s .tables) (s .relations) op n → (n ≡ 0 → ⊥) → Turned (setKind op) f s shape ends shape′ ends′ (stepAt n s′)
   set-refused t nz = turned-refused n (set-found t) nz
 
-  set-done : {s′ : State} {shape′ : List ℕ} {ends′ : List ℤ} {left right : ℕ} → SetFault f shape (s .tables) (s .relations) union n → n ≡ 0 → left ≡ getD f 1 0 → right ≡ getD f 2 0
-      → SetEntered (setView union) left right (s .relations) shape ends shape′ ends′ → s′ ≡ withView s → Turned k f s shape ends shape′ ends′ (stepAt 0 s′)
+  pub set-done : {s′ : State} {shape′ : List ℕ} {ends′ : List ℤ} {left right : ℕ} → SetFault f shape (s .tables) (s .relations) op n → n ≡ 0 → left ≡ getD f 1 0 → right ≡ getD f 2 0
+      → SetEntered op left right (s .relations) shape ends shape′ ends′ → s′ ≡ withView s → Turned (setKind op) f s shape ends shape′ ends′ (stepAt 0 s′)
   set-done {s′} {shape′} {ends′} {left} {right} t z l r e w = record {
     fault = λ d h o p. sym z ∙ set-found t d h o p;
-    next = λ d i h o p reads whole. go d i h (set-read d (setView union) f i (ap (λ (m : Reader Item). m (drop 1 f)) (sym (same d)) ∙ reads))
-        (item-turn d k (drop 1 f) i o p reads) whole;
+    next = λ d i h o p reads whole. go d i h (set-read d op f i (ap (λ (m : Reader Item). m (drop 1 f)) (sym (set-frame op d)) ∙ reads))
+        (item-turn d (setKind op) (drop 1 f) i o p reads) whole;
   }
     where
-      go : (d : Draft) (i : Item) → Held d s shape ends → SetRead d (setView union) f i → Turn d i → wholeFault d i ≡ 0
+      go : (d : Draft) (i : Item) → Held d s shape ends → SetRead d op f i → Turn d i → wholeFault d i ≡ 0
           → Stands (added d i) s′ × Catalogued (added d i) shape′ ends′
       go d i h read turn whole =
-          let q : View = setView union left right in
-          let is : i ≡ Item.view q = read .view ∙ ap₂ (λ x y. Item.view (setView union x y)) (sym l) (sym r) in
+          let q : View = View.set op left right in
+          let is : i ≡ Item.view q = read .view ∙ ap₂ (λ x y. Item.view (View.set op x y)) (sym l) (sym r) in
           let turn′ : Turn d (Item.view q) = subst (Turn d) is turn in
           let whole′ : wholeFault d (Item.view q) ≡ 0 = subst (λ (x : Item). wholeFault d x ≡ 0) is whole in
           subst (λ (x : Item). Stands (added d x) s′ × Catalogued (added d x) shape′ ends′) (sym is) (
             rw w (stands-view (h .stands) q turn′),
             e .entered d (h .catalogued) (h .stands .relations) (omega (arith, h .stands .relations, turn′ .room)) (omega (arith, read .left)) (omega (arith, read .right)) (whole-bounded d q whole′),
           )
-
-module _ {f : List ℕ} {s : State} {shape : List ℕ} {ends : List ℤ} {n : ℕ} {s′ : State} {shape′ : List ℕ} {ends′ : List ℤ} where
-  pub union-refused : SetFault f shape (s .tables) (s .relations) true n → (n ≡ 0 → ⊥) → Turned 5 f s shape ends shape′ ends′ (stepAt n s′)
-  union-refused t nz = set-refused 5 true (λ d. refl) t nz
-
-  pub union-done : {left right : ℕ} → SetFault f shape (s .tables) (s .relations) true n → n ≡ 0 → left ≡ getD f 1 0 → right ≡ getD f 2 0
-      → SetEntered View.union left right (s .relations) shape ends shape′ ends′ → s′ ≡ withView s → Turned 5 f s shape ends shape′ ends′ (stepAt 0 s′)
-  union-done t z l r e w = set-done 5 true (λ d. refl) t z l r e w
-
-  pub intersection-refused : SetFault f shape (s .tables) (s .relations) false n → (n ≡ 0 → ⊥) → Turned 6 f s shape ends shape′ ends′ (stepAt n s′)
-  intersection-refused t nz = set-refused 6 false (λ d. refl) t nz
-
-  pub intersection-done : {left right : ℕ} → SetFault f shape (s .tables) (s .relations) false n → n ≡ 0 → left ≡ getD f 1 0 → right ≡ getD f 2 0
-      → SetEntered View.intersection left right (s .relations) shape ends shape′ ends′ → s′ ≡ withView s → Turned 6 f s shape ends shape′ ends′ (stepAt 0 s′)
-  intersection-done t z l r e w = set-done 6 false (λ d. refl) t z l r e w
 
 -- ---- 07
 

@@ -1,7 +1,8 @@
 -- The arrays after a union or an intersection stand for the draft with it. Assumes nothing.
 use mathlib.Core.Path.{_≡_, refl, sym, ap, ap₂, _∙_}
+use mathlib.Core.Bool.{Bool, true, false, cond}
 use mathlib.Core.List.{List, [], _∷_}
-use Prim.Native.Nat.{ℕ, zero, suc, _+_, _*_, _≤_, _<_, min}
+use Prim.Native.Nat.{ℕ, zero, suc, _*_, _≤_, _<_, min}
 use native.Mathlib.Omega.{arith}
 use lib.IntN.{ℤ}
 use lib.ListN.{length, getD}
@@ -11,11 +12,12 @@ use Rattle.value.proofs.Decides.{by-test}
 use Rattle.range.specs.declared.Range.{Range}
 use Rattle.range.specs.Ranges.{hullOf}
 use Rattle.meaning.specs.Syntax.{View}
-use Rattle.meaning.specs.Bounds.{Schema, schema, hulls}
+use Rattle.meaning.specs.Bounds.{Schema, schema, hulls, setBound, setRanges}
 use Rattle.meaning.proofs.Sizes.{length-hulls}
 use Rattle.bounds.specs.Catalog.{widthAt, boundAt, rangesFrom, rangesIn}
 use Rattle.language.specs.Draft.{Draft, relationCount, schemasOf}
 use Rattle.rules.specs.Catalogued.{Catalogued}
+use Rattle.rules.specs.Layout.{setOperation}
 use Rattle.rules.specs.Entries.{putShape, putRanges, hullAt, HullsPut, SetEntered, Outside}
 use Rattle.rules.proofs.CatalogLaws.{none, length-ranges, puts-outside, puts-ranges}
 use Rattle.rules.proofs.EntryLaws.{view-entered}
@@ -41,6 +43,15 @@ max-self z = by-test (leZ z z) (λ e. rw e) (λ e. rw e)
 hull-self : (x : Range) → hullOf x x ≡ x
 hull-self x = ap₂ (λ l h. record { lo = l; hi = h }) (min-self (x .lo)) (max-self (x .hi))
 
+hulls-self : (as′ : List Range) → hulls as′ as′ ≡ as′
+hulls-self [] = refl
+hulls-self (a ∷ as′) = ap₂ _∷_ (hull-self a) (hulls-self as′)
+
+-- an intersection's ranges are the hulls of the left's with themselves
+set-hulls : (union : Bool) (rs : ℕ → List Range) (i j : ℕ) → setRanges (setOperation union) (rs i) (rs j) ≡ hulls (rs i) (rs (cond union j i))
+set-hulls true rs i j = refl
+set-hulls false rs i j = sym (hulls-self (rs i))
+
 -- ---- what is stored
 
 module _ {d : Draft} {shape : List ℕ} {ends : List ℤ} (c : Catalogued d shape ends) where
@@ -60,34 +71,26 @@ module _ {d : Draft} {shape : List ℕ} {ends : List ℤ} (c : Catalogued d shap
     put-ranges s w rs n same = rw put (puts-ranges (hullAt shape ends left right) ends r s (c .ends-size) width w rs n same)
 
 module _ (left right r width bound : ℕ) (shape : List ℕ) (ends : List ℤ) (shape′ : List ℕ) (ends′ : List ℤ) (s : shape′ ≡ putShape shape r 2 width bound 0) where
-  pub union-entered : width ≡ min (widthAt shape left) (widthAt shape right) → bound ≡ min (boundAt shape left + boundAt shape right) 255
-      → HullsPut left right r width shape ends ends′ → SetEntered View.union left right r shape ends shape′ ends′
+  pub set-entered : (union : Bool) (other : ℕ) → other ≡ cond union right left → width ≡ min (widthAt shape left) (widthAt shape other)
+      → bound ≡ min (setBound (setOperation union) (boundAt shape left) (boundAt shape right)) 255 → HullsPut left other r width shape ends ends′
+      → SetEntered (setOperation union) left right r shape ends shape′ ends′
   unfolding hullAt
-  union-entered w b p = record {
+  set-entered union other o w b p = record {
     entered = λ d c e z l k m.
+        let op = setOperation union in
         let L = rangesIn shape ends left in
-        let R = rangesIn shape ends right in
+        let O = rangesIn shape ends other in
         let few : width ≤ 8 = omega (arith, c .widths left) in
         let lw : length L ≡ widthAt shape left = length-ranges ends (16 * left) (widthAt shape left) in
-        let rw′ : length R ≡ widthAt shape right = length-ranges ends (16 * right) (widthAt shape right) in
-        let n : length (hulls L R) ≡ width = omega (arith, length-hulls L R) in
-        let bounds : schema (schemasOf d) left .bound + schema (schemasOf d) right .bound ≡ bound = omega (arith, bound-known c left, bound-known c right) in
-        let ranges : rangesFrom ends′ (16 * r) width ≡ hulls L R = put-ranges c left right r width ends′ e l k p z few (hulls L R) n
-        (λ i h. sym (hulls-at L R i (omega arith) (omega arith))) in
-        view-entered d (View.union left right) r 2 width bound 0 shape ends shape′ ends′ c e z few s (put-outside c left right r width ends′ e l k p few)
-        (ap₂ (λ a rs. record { bound = a; ranges = rs }) bounds (ap₂ hulls (ranges-are c left) (ranges-are c right) ∙ sym ranges));
-  }
-
-  pub intersection-entered : width ≡ widthAt shape left → bound ≡ min (boundAt shape left) (boundAt shape right)
-      → HullsPut left left r width shape ends ends′ → SetEntered View.intersection left right r shape ends shape′ ends′
-  unfolding hullAt
-  intersection-entered w b p = record {
-    entered = λ d c e z l k m.
-        let L = rangesIn shape ends left in
-        let few : width ≤ 8 = omega (arith, c .widths left) in
-        let n : length L ≡ width = length-ranges ends (16 * left) (widthAt shape left) ∙ sym w in
-        let bounds : min (schema (schemasOf d) left .bound) (schema (schemasOf d) right .bound) ≡ bound = omega (arith, bound-known c left, bound-known c right) in
-        let ranges : rangesFrom ends′ (16 * r) width ≡ L = put-ranges c left left r width ends′ e l l p z few L n (λ i h. hull-self (getD L i none)) in
-        view-entered d (View.intersection left right) r 2 width bound 0 shape ends shape′ ends′ c e z few s (put-outside c left left r width ends′ e l l p few)
-        (ap₂ (λ a rs. record { bound = a; ranges = rs }) bounds (ranges-are c left ∙ sym ranges));
+        let ow : length O ≡ widthAt shape other = length-ranges ends (16 * other) (widthAt shape other) in
+        let n : length (hulls L O) ≡ width = omega (arith, length-hulls L O) in
+        let x : other < relationCount d = rw o (by-test union (λ t. rw t k) (λ t. rw t l)) in
+        let bounds : setBound op (schema (schemasOf d) left .bound) (schema (schemasOf d) right .bound) ≡ bound =
+        omega (arith, ap₂ (setBound op) (bound-known c left) (bound-known c right)) in
+        let ranges : rangesFrom ends′ (16 * r) width ≡ hulls L O = put-ranges c left other r width ends′ e l x p z few (hulls L O) n
+        (λ i h. sym (hulls-at L O i (omega arith) (omega arith))) in
+        let hull : setRanges op (schema (schemasOf d) left .ranges) (schema (schemasOf d) right .ranges) ≡ hulls L O =
+        ap₂ (setRanges op) (ranges-are c left) (ranges-are c right) ∙ set-hulls union (rangesIn shape ends) left right ∙ ap (λ i. hulls L (rangesIn shape ends i)) (sym o) in
+        view-entered d (View.set op left right) r 2 width bound 0 shape ends shape′ ends′ c e z few s (put-outside c left other r width ends′ e l x p few)
+        (ap₂ (λ a rs. record { bound = a; ranges = rs }) bounds (hull ∙ sym ranges));
   }

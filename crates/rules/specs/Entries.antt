@@ -8,7 +8,7 @@ use Rattle.value.specs.Integer.{bytesZ}
 use Rattle.value.specs.Value.{Column}
 use Rattle.range.specs.declared.Range.{Range}
 use Rattle.range.specs.Ranges.{constantOf, columnOf, hullOf}
-use Rattle.meaning.specs.Syntax.{Table, View}
+use Rattle.meaning.specs.Syntax.{Table, SetOperation, View}
 use Rattle.language.specs.Reading.{Read}
 use Rattle.meaning.specs.Bounds.{viewSchema}
 use Rattle.bounds.specs.Catalog.{widthAt, rangesIn}
@@ -44,7 +44,7 @@ columnFrom packed at =
 unfoldable pub columnIn : List ℕ → ℕ → Range
 columnIn frame c = let x = columnFrom frame (4 * c + 4) in columnOf (x .lo) (x .hi)
 
--- column c of a union
+-- the hull of column c of two relations
 unfoldable pub hullAt : List ℕ → List ℤ → ℕ → ℕ → ℕ → Range
 hullAt shape ends left right c = hullOf (rangeAt shape ends left c) (rangeAt shape ends right c)
 
@@ -62,9 +62,9 @@ pub record TableEntered (frame : List ℕ) (r : ℕ) (shape : List ℕ) (ends : 
   pub entered : (d : Draft) (t : Table) → Catalogued d shape ends → r ≡ length (d .tables) → r < 16 → d .views ≡ []
       → tableFrame (drop 1 frame) ≡ Read.ok (Item.table t) [] → Catalogued (added d (Item.table t)) shape′ ends′
 
-pub record SetEntered (set : ℕ → ℕ → View) (left right r : ℕ) (shape : List ℕ) (ends : List ℤ) (shape′ : List ℕ) (ends′ : List ℤ) : Type 0 where
+pub record SetEntered (op : SetOperation) (left right r : ℕ) (shape : List ℕ) (ends : List ℤ) (shape′ : List ℕ) (ends′ : List ℤ) : Type 0 where
   pub entered : (d : Draft) → Catalogued d shape ends → r ≡ relationCount d → r < 16 → left < relationCount d → right < relationCount d
-      → viewSchema (schemasOf d) (set left right) .bound ≤ 64 → Catalogued (added d (Item.view (set left right))) shape′ ends′
+      → viewSchema (schemasOf d) (View.set op left right) .bound ≤ 64 → Catalogued (added d (Item.view (View.set op left right))) shape′ ends′
 
 -- the part of ends that is not relation r's is as it was: what a function promises that stores a view's ranges
 pub record Outside (r : ℕ) (ends ends′ : List ℤ) : Type 0 where

@@ -3,12 +3,13 @@
 use mathlib.Core.Path.{_≡_}
 use mathlib.Core.Bool.{Bool, true, false, cond}
 use mathlib.Core.List.{List}
-use Prim.Native.Nat.{ℕ, zero, suc, _+_, _/_, _%_, _<_, min}
+use Prim.Native.Nat.{ℕ, zero, suc, _+_, _/_, _%_, _<_}
 use lib.Dec.{leb, eqb}
 use lib.IntN.{ℤ}
 use lib.ListN.{length, getD}
 use Rattle.value.specs.Bag.{tick}
-use Rattle.meaning.specs.Syntax.{View}
+use Rattle.meaning.specs.Syntax.{SetOperation}
+use Rattle.meaning.specs.Bounds.{setBound}
 use Rattle.language.specs.Draft.{Draft, relationCount}
 use Rattle.language.specs.Frames.{times, columnField, pairField, tableFrame, keyFrame, setFrame, goalFrame, noTable}
 use Rattle.rules.specs.Faults.{faultAt, first}
@@ -40,17 +41,14 @@ pairing frame n i (suc left) mask = first (columnPairing frame n i mask) (pairin
 
 -- ---- 05 union, 06 intersection
 
-abbrev pub setView : Bool → ℕ → ℕ → View
-setView true = View.union
-setView false = View.intersection
-
-unfoldable pub setBound : Bool → ℕ → ℕ → ℕ
-setBound true a b = a + b
-setBound false a b = min a b
+-- the code says by a test which of the two
+abbrev pub setOperation : Bool → SetOperation
+setOperation true = SetOperation.union
+setOperation false = SetOperation.intersection
 
 -- the rules on a set view of two relations by their columns and row bounds: 6, then 8
-unfoldable pub setRules : Bool → ℕ → ℕ → ℕ → ℕ → ℕ
-setRules union v w a b = cond (eqb v w) (cond (leb (setBound union a b) 64) 0 8) 6
+unfoldable pub setRules : SetOperation → ℕ → ℕ → ℕ → ℕ → ℕ
+setRules op v w a b = cond (eqb v w) (cond (leb (setBound op a b) 64) 0 8) 6
 
 -- ---- what the code promises
 
@@ -64,9 +62,9 @@ pub record KeysFit (d : Draft) : Type 0 where
 pub record KeyFault (frame shape : List ℕ) (tables r : ℕ) : Type 0 where
   pub at : (d : Draft) (ends : List ℤ) → Catalogued d shape ends → KeysFit d → tables ≡ length (d .tables) → r ≡ bodyFault d (keyFrame d) frame
 
-pub record SetFault (frame shape : List ℕ) (tables count : ℕ) (union : Bool) (r : ℕ) : Type 0 where
+pub record SetFault (frame shape : List ℕ) (tables count : ℕ) (op : SetOperation) (r : ℕ) : Type 0 where
   pub at : (d : Draft) (ends : List ℤ) → Catalogued d shape ends → tables ≡ length (d .tables) → count ≡ relationCount d
-      → r ≡ bodyFault d (setFrame d (setView union)) frame
+      → r ≡ bodyFault d (setFrame d op) frame
 
 pub record GoalFault (frame : List ℕ) (tables count r : ℕ) : Type 0 where
   pub at : (d : Draft) → tables ≡ length (d .tables) → count ≡ relationCount d → r ≡ bodyFault d (goalFrame d) frame

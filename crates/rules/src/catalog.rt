@@ -5,13 +5,15 @@ use slice::put_byte;
 use value::domain::Domain;
 use value::integer;
 ghost use mathlib.Core.Path.{_≡_};
+ghost use mathlib.Core.Bool.{cond};
 ghost use Prim.Native.Nat.{_+_, _*_, _≤_, min};
 ghost use lib.IntN.{pos};
 ghost use lib.ListN.{getD, set};
 ghost use Rattle.value.specs.Machine.{columnOf};
-ghost use Rattle.meaning.specs.Syntax.{View};
+ghost use Rattle.meaning.specs.Bounds.{setBound};
 ghost use Rattle.bounds.specs.Catalog.{widthAt, boundAt, maskAt};
 ghost use Rattle.rules.specs.Entries.{putRange, putShape, putRanges, rangeAt, columnFrom, columnIn, HullsPut, TableEntered, SetEntered};
+ghost use Rattle.rules.specs.Layout.{setOperation};
 ghost use Rattle.rules.specs.Packed.{tooMany, cappedProduct, columnsFrom, tableCells, cellsFrom, Counted};
 
 const TABLE: u8 = 1;
@@ -177,25 +179,30 @@ pub fn sum_of(a: u8, b: u8) -> u8
     if a <= 255 - b { a + b } else { 255 }
 }
 
-// A union as relation r: the columns of the narrower, for the fault of unequal widths is found elsewhere.
-// Refused: the left's row bound twice; the left's ranges.
-pub fn enter_union(left: u8, right: u8, shape: &mut [u8], ends: &mut [i32], r: u8)
-    ensures { λ _. ⌜ SetEntered View.union left right r (now (shape .entry)) (now (ends .entry)) (now (shape .exit)) (now (ends .exit)) ⌝ }
+// The row bound of a union or an intersection, at most 255.
+// Refused: twice the left's for the sum; the left's for the smaller.
+pub fn set_bound(union: bool, a: u8, b: u8) -> u8
+    ensures { λ n. ⌜ n ≡ min (setBound (setOperation union) a b) 255 ⌝ }
 {
-    let width = least(width_of(shape, left), width_of(shape, right));
-    let bound = sum_of(bound_of(shape, left), bound_of(shape, right));
-    put_hulls(shape, ends, left, right, r, width);
-    enter_view(shape, r, width, bound);
+    if union { sum_of(a, b) } else { least(a, b) }
 }
 
-// An intersection as relation r. The hull of a range with itself is that range.
-// Refused: the left's row bound; the right's ranges.
-pub fn enter_intersection(left: u8, right: u8, shape: &mut [u8], ends: &mut [i32], r: u8)
-    ensures { λ _. ⌜ SetEntered View.intersection left right r (now (shape .entry)) (now (ends .entry)) (now (shape .exit)) (now (ends .exit)) ⌝ }
+// Whose ranges join the left's in hulls: an intersection keeps the left's, and the hull of a range with itself is that range.
+fn joined_with(union: bool, left: u8, right: u8) -> u8
+    ensures { λ i. ⌜ i ≡ cond union right left ⌝ }
 {
-    let width = width_of(shape, left);
-    let bound = least(bound_of(shape, left), bound_of(shape, right));
-    put_hulls(shape, ends, left, left, r, width);
+    if union { right } else { left }
+}
+
+// A set view as relation r: the columns of the narrower, for the fault of unequal widths is found elsewhere.
+// Refused: the left's row bound twice; hulls for an intersection.
+pub fn enter_set(union: bool, left: u8, right: u8, shape: &mut [u8], ends: &mut [i32], r: u8)
+    ensures { λ _. ⌜ SetEntered (setOperation union) left right r (now (shape .entry)) (now (ends .entry)) (now (shape .exit)) (now (ends .exit)) ⌝ }
+{
+    let other = joined_with(union, left, right);
+    let width = least(width_of(shape, left), width_of(shape, other));
+    let bound = set_bound(union, bound_of(shape, left), bound_of(shape, right));
+    put_hulls(shape, ends, left, other, r, width);
     enter_view(shape, r, width, bound);
 }
 

@@ -5,7 +5,8 @@ ghost use lib.ListN.{getD};
 ghost use Rattle.value.specs.Integer.{bytesZ};
 ghost use Rattle.language.specs.Frames.{columnField, pairField};
 ghost use Rattle.rules.specs.Faults.{faultAt};
-ghost use Rattle.rules.specs.Layout.{columnsFault, pairsFault, parentCount, columnPairing, pairing, setBound, setRules, TableFault, KeyFault, SetFault, GoalFault};
+ghost use Rattle.rules.specs.Layout.{columnsFault, pairsFault, parentCount, columnPairing, pairing, setOperation, setRules, TableFault, KeyFault, SetFault, GoalFault};
+use super::catalog;
 use super::fields;
 use value::boolean;
 use value::integer;
@@ -200,31 +201,24 @@ pub fn key_fault(frame: &[u8], shape: &[u8], tables: u8) -> u8
 
 // ---- 05 union, 06 intersection
 
-fn set_bound(union: bool, a: u8, b: u8) -> u16
-    ensures { λ r. ⌜ r ≡ setBound union a b ⌝ }
-{
-    let x = a as u16;
-    let y = b as u16;
-    if union {
-        return x + y;
-    }
-    if x <= y { x } else { y }
-}
-
 // The rules on a set view of two relations by their columns, v and w, and their row bounds, a and b.
 fn set_rules(union: bool, v: u8, w: u8, a: u8, b: u8) -> u8
-    ensures { λ r. ⌜ r ≡ setRules union v w a b ⌝ }
+    ensures { λ r. ⌜ r ≡ setRules (setOperation union) v w a b ⌝ }
 {
     if v != w {
         return 6;
     }
-    if set_bound(union, a, b) <= 64 { 0 } else { 8 }
+    if catalog::set_bound(union, a, b) <= 64 {
+        0
+    } else {
+        8
+    }
 }
 
 // The fault of the frame of a union or an intersection.
 // Refused: a table as a view; the rules before the end.
 pub fn set_fault(frame: &[u8], shape: &[u8], tables: u8, count: u8, union: bool) -> u8
-    ensures { λ r. ⌜ SetFault (now (frame .entry)) (now (shape .entry)) tables count union r ⌝ }
+    ensures { λ r. ⌜ SetFault (now (frame .entry)) (now (shape .entry)) tables count (setOperation union) r ⌝ }
 {
     let v = known(shape, frame, 1, WIDTH);
     let w = known(shape, frame, 2, WIDTH);

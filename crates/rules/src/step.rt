@@ -7,6 +7,8 @@ use super::state::State;
 use super::view_bytes;
 use super::view_rules;
 ghost use mathlib.Core.Path.{_≡_};
+ghost use Rattle.language.specs.Written.{setKind};
+ghost use Rattle.rules.specs.Layout.{setOperation};
 ghost use Rattle.rules.specs.Standing.{Turned, Stepped};
 
 pub struct Step {
@@ -83,10 +85,10 @@ fn grouped_step(frame: &[u8], shape: &mut [u8], ends: &mut [i32], s: State) -> S
     }
 }
 
-fn union_step(frame: &[u8], shape: &mut [u8], ends: &mut [i32], s: State) -> Step
-    ensures { λ r. ⌜ Turned 5 (now (frame .entry)) s (now (shape .entry)) (now (ends .entry)) (now (shape .exit)) (now (ends .exit)) r ⌝ }
+fn set_step(union: bool, frame: &[u8], shape: &mut [u8], ends: &mut [i32], s: State) -> Step
+    ensures { λ r. ⌜ Turned (setKind (setOperation union)) (now (frame .entry)) s (now (shape .entry)) (now (ends .entry)) (now (shape .exit)) (now (ends .exit)) r ⌝ }
 {
-    let fault = fixed::set_fault(frame, shape, s.tables, s.relations, true);
+    let fault = fixed::set_fault(frame, shape, s.tables, s.relations, union);
     if fault != 0 {
         return Step {
             fault: fault,
@@ -95,26 +97,7 @@ fn union_step(frame: &[u8], shape: &mut [u8], ends: &mut [i32], s: State) -> Ste
     }
     let left = slice::byte_at(frame, 1);
     let right = slice::byte_at(frame, 2);
-    catalog::enter_union(left, right, shape, ends, s.relations);
-    Step {
-        fault: 0,
-        state: state::with_view(s),
-    }
-}
-
-fn intersection_step(frame: &[u8], shape: &mut [u8], ends: &mut [i32], s: State) -> Step
-    ensures { λ r. ⌜ Turned 6 (now (frame .entry)) s (now (shape .entry)) (now (ends .entry)) (now (shape .exit)) (now (ends .exit)) r ⌝ }
-{
-    let fault = fixed::set_fault(frame, shape, s.tables, s.relations, false);
-    if fault != 0 {
-        return Step {
-            fault: fault,
-            state: s,
-        };
-    }
-    let left = slice::byte_at(frame, 1);
-    let right = slice::byte_at(frame, 2);
-    catalog::enter_intersection(left, right, shape, ends, s.relations);
+    catalog::enter_set(union, left, right, shape, ends, s.relations);
     Step {
         fault: 0,
         state: state::with_view(s),
@@ -142,8 +125,8 @@ fn body_step(kind: u8, frame: &[u8], shape: &mut [u8], ends: &mut [i32], s: Stat
         2 => key_step(frame, shape, ends, s),
         3 => basic_step(frame, shape, ends, s),
         4 => grouped_step(frame, shape, ends, s),
-        5 => union_step(frame, shape, ends, s),
-        6 => intersection_step(frame, shape, ends, s),
+        5 => set_step(true, frame, shape, ends, s),
+        6 => set_step(false, frame, shape, ends, s),
         _ => goal_step(frame, shape, ends, s),
     }
 }

@@ -58,7 +58,7 @@ first-of-requires-3 c κs = search needs
 
 -- src/fixed.rt:234:1
 returns : tie.Need-returns
-returns c = set-answer (c .before .before .before .before .before .before .before .before .before .before .before .before .before .args .frame .now) (c .before .before .before .before .before .before .before .before .before .before .before .before .before .args .tables) (c .before .before .before .before .before .before .before .before .before .before .before .before .before .args .count) (c .before .before .before .before .before .before .before .before .before .before .before .before .before .args .shape .now) (c .before .before .before .before .before .before .before .before .before .before .before .before .before .args .union) _ _ _ _ (c .before .before .before .before .before .before .before .before .before .before .known .ensures) (c .before .before .before .before .before .before .before .before .before .known2 .ensures) (c .before .before .before .before .before .before .before .before .known3 .ensures) (c .before .before .before .before .before .before .before .known4 .ensures)
+returns c = set-answer (c .before .before .before .before .before .before .before .before .before .before .before .before .before .args .frame .now) (c .before .before .before .before .before .before .before .before .before .before .before .before .before .args .tables) (c .before .before .before .before .before .before .before .before .before .before .before .before .before .args .count) (c .before .before .before .before .before .before .before .before .before .before .before .before .before .args .shape .now) _ _ _ _ _ (c .before .before .before .before .before .before .before .before .before .before .known .ensures) (c .before .before .before .before .before .before .before .before .before .known2 .ensures) (c .before .before .before .before .before .before .before .before .known3 .ensures) (c .before .before .before .before .before .before .before .known4 .ensures)
     (c .first-of3 .ensures ∙ ap₂ first (c .before .before .before .before .before .before .from-below .ensures)
     (c .before .first-of2 .ensures ∙ ap₂ first (c .before .before .before .before .before .from-below2 .ensures)
     (c .before .before .first-of .ensures ∙ ap₂ first (c .before .before .before .before .ends-at .ensures) (c .before .before .before .set-rules .ensures))))

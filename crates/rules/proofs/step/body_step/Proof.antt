@@ -17,11 +17,11 @@ basic-step-requires c κs = search needs
 grouped-step-requires : tie.Need-grouped-step-requires
 grouped-step-requires c κs = search needs
 
-union-step-requires : tie.Need-union-step-requires
-union-step-requires c κs = search needs
+set-step-requires : tie.Need-set-step-requires
+set-step-requires c κs = search needs
 
-intersection-step-requires : tie.Need-intersection-step-requires
-intersection-step-requires c κs = search needs
+set-step-requires-2 : tie.Need-set-step-requires-2
+set-step-requires-2 c κs = search needs
 
 goal-step-requires : tie.Need-goal-step-requires
 goal-step-requires c κs = search needs
@@ -69,7 +69,7 @@ same-length-10 : tie.Need-same-length-10
 same-length-10 c = search needs
 
 returns-5 : tie.Need-returns-5
-returns-5 c = turned-same (c .before .before .before .before .before .before .match .keys5) (c .before .before .before .union-step .ensures)
+returns-5 c = turned-same (c .before .before .before .before .before .before .match .keys5) (c .before .before .before .set-step .ensures)
 
 same-length-11 : tie.Need-same-length-11
 same-length-11 c = search needs
@@ -78,7 +78,7 @@ same-length-12 : tie.Need-same-length-12
 same-length-12 c = search needs
 
 returns-6 : tie.Need-returns-6
-returns-6 c = turned-same (c .before .before .before .before .before .before .match .keys6) (c .before .before .before .intersection-step .ensures)
+returns-6 c = turned-same (c .before .before .before .before .before .before .match .keys6) (c .before .before .before .set-step2 .ensures)
 
 same-length-13 : tie.Need-same-length-13
 same-length-13 c = search needs
@@ -97,8 +97,8 @@ body-step-spec =
     key-step-requires
     basic-step-requires
     grouped-step-requires
-    union-step-requires
-    intersection-step-requires
+    set-step-requires
+    set-step-requires-2
     goal-step-requires
     same-length
     same-length-2
