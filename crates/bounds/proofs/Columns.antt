@@ -16,7 +16,7 @@ use Rattle.range.proofs.Bits32.{ranged-fits}
 use Rattle.meaning.specs.Syntax.{Place}
 use Rattle.meaning.specs.Bounds.{anyColumn, groupingColumn}
 use Rattle.meaning.proofs.ListSteps.{map-at}
-use Rattle.bounds.specs.Catalog.{widthAt, rangesFrom, rangesIn, itemsIn}
+use Rattle.catalog.specs.Arrays.{widthAt, rangesFrom, rangesIn, itemsIn}
 use Rattle.bounds.specs.Walk.{placesFrom, columnIn, columnsOf}
 use Rattle.bounds.specs.declared.Rule.{Rule}
 

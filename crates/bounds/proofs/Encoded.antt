@@ -9,7 +9,7 @@ use Rattle.language.specs.Prefix.{encodeE, encodeC}
 use Rattle.language.specs.Reading.{readE, readC, InLimitsE, InLimitsC}
 use Rattle.meaning.specs.Bounds.{withinC, allowedE, allowedC}
 use Rattle.language.proofs.PrefixForms.{backE, backC}
-use Rattle.bounds.specs.Catalog.{itemsIn}
+use Rattle.catalog.specs.Arrays.{itemsIn}
 use Rattle.bounds.specs.Walk.{columnsOf, widthsIn, rangedE, SizesE, TestsC}
 use Rattle.bounds.specs.declared.Rule.{Rule}
 use Rattle.bounds.specs.declared.Sized.{Sized}

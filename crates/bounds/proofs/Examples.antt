@@ -12,7 +12,7 @@ use Rattle.range.specs.declared.Ranged.{Ranged}
 use Rattle.range.specs.declared.Ranged.the-variants.{Within, Beyond}
 use Rattle.meaning.specs.Syntax.{Expr}
 use Rattle.meaning.specs.Bounds.{allowedE}
-use Rattle.bounds.specs.Catalog.{rangesFrom, itemsIn}
+use Rattle.catalog.specs.Arrays.{rangesFrom, itemsIn}
 use Rattle.bounds.specs.Walk.{placesFrom, columnsOf, columnIn, rangedE}
 
 abbrev shape : List ℕ

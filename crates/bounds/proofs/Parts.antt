@@ -13,7 +13,7 @@ use Rattle.range.specs.declared.Ranged.{Ranged}
 use Rattle.range.specs.declared.Ranged.the-variants.{Within, Beyond}
 use Rattle.meaning.specs.Syntax.{Expr, Cond}
 use Rattle.meaning.specs.Bounds.{range, withinE, withinC}
-use Rattle.bounds.specs.Catalog.{itemsIn}
+use Rattle.catalog.specs.Arrays.{itemsIn}
 use Rattle.bounds.specs.Walk.{columnIn, rangedE, operatedR, roundedR, hullR, chosenR, aggregatedR, isWithin}
 
 -- the range, if it and the parts fit

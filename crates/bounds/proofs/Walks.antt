@@ -21,7 +21,7 @@ use Rattle.language.specs.Reading.{Read, byte, byteIf, step, choose, expression
 use Rattle.meaning.specs.Bounds.{withinC, allowedE, allowedC}
 use Rattle.language.proofs.Readers.{then-ok}
 use Rattle.language.proofs.PrefixForms.{readE-nil, readC-nil, readE-step, readC-step, readE-operation, readC-comparison, readC-connection}
-use Rattle.bounds.specs.Catalog.{itemsIn}
+use Rattle.catalog.specs.Arrays.{itemsIn}
 use Rattle.bounds.specs.Walk.{columnsOf, insideOf, widthsIn, rangedE, operatedR, roundedR, chosenR, aggregatedR, isWithin, sized, tested, columnAt, SizesE, SizesTwo, TestsC}
 use Rattle.bounds.specs.declared.Rule.{Rule}
 use Rattle.bounds.specs.declared.Sized.{Sized}

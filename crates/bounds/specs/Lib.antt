@@ -1,3 +1,2 @@
 -- What a reader must believe of the bounds of expressions on frame bytes.
-pub mod Catalog
 pub mod Walk

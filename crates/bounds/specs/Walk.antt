@@ -14,7 +14,7 @@ use Rattle.range.specs.declared.Ranged.the-variants.{Within, Beyond}
 use Rattle.meaning.specs.Syntax.{Expr, Cond, Place}
 use Rattle.language.specs.Reading.{Read, readE, readC}
 use Rattle.meaning.specs.Bounds.{range, withinE, withinC, allowedE, allowedC, anyColumn, groupingColumn}
-use Rattle.bounds.specs.Catalog.{widthAt, itemsIn}
+use Rattle.catalog.specs.Arrays.{widthAt, itemsIn}
 use Rattle.bounds.specs.declared.Rule.{Rule}
 use Rattle.bounds.specs.declared.Sized.{Sized}
 use Rattle.bounds.specs.declared.Pair.{Pair}

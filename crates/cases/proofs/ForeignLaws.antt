@@ -17,12 +17,12 @@ use Rattle.meaning.specs.Evaluation.{missing}
 use Rattle.meaning.specs.Valid.{agrees, foreignKeyHolds}
 use Rattle.meaning.proofs.Elements.{all-at}
 use Rattle.language.specs.Legal.{LegalKey, LegalPair, tableAt}
-use Rattle.language.specs.Written.{keyBytes}
+use Rattle.language.specs.Written.{keyBytes, pairsBytes}
 use Rattle.store.specs.Layout.{cellIn}
 use Rattle.store.specs.Rows.{rowIn, rowsIn}
 use Rattle.store.proofs.RowLaws.{cell-of-row}
 use Rattle.cases.specs.Given.{TablesIn}
-use Rattle.cases.specs.Validity.{pairsBytes, Agreed, HasParent, ForeignHeld, ForeignsHeld}
+use Rattle.cases.specs.Validity.{Agreed, HasParent, ForeignHeld, ForeignsHeld}
 use Rattle.cases.proofs.OutlineLaws.{pack-cons}
 use Rattle.cases.proofs.RowTests.{all-none, all-step, all-stops, any-none, any-step, any-found}
 

@@ -9,8 +9,7 @@ use Rattle.value.proofs.Places.{byte-here, two-here}
 use Rattle.meaning.specs.Lists.{joined}
 use Rattle.meaning.specs.Syntax.{Expr, Cond, Place, SetOperation, View}
 use Rattle.language.specs.Prefix.{encodeE, encodeC}
-use Rattle.language.specs.Written.{setKind, viewBytes}
-use Rattle.views.specs.Grouping.{placesBytes}
+use Rattle.language.specs.Written.{setKind, viewBytes, placesBytes}
 use Rattle.cases.specs.Relations.{kindOf}
 
 -- ---- the kind of a set view

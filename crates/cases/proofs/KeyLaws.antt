@@ -14,11 +14,11 @@ use Rattle.meaning.specs.Syntax.{Row, File, Database}
 use Rattle.meaning.specs.Evaluation.{missing}
 use Rattle.meaning.specs.Valid.{differ, keyHolds}
 use Rattle.meaning.proofs.Stacks.{by-lt}
-use Rattle.bounds.specs.Catalog.{widthAt, maskAt}
+use Rattle.catalog.specs.Arrays.{widthAt, maskAt}
 use Rattle.language.specs.Frames.{noTable}
 use Rattle.language.specs.Legal.{tableAt}
 use Rattle.language.specs.Written.{maskOf}
-use Rattle.rules.proofs.PairLaws.{bit-first, bits-after}
+use Rattle.checker.proofs.PairLaws.{bit-first, bits-after}
 use Rattle.store.specs.Layout.{cellIn}
 use Rattle.store.specs.Rows.{rowIn, rowsIn}
 use Rattle.store.proofs.RowLaws.{row-length, cell-of-row}

@@ -17,11 +17,11 @@ use Rattle.meaning.specs.Bounds.{Schema, noSchema, schema, schemas, tableSchema
 use Rattle.meaning.proofs.ListSteps.{map-at}
 use Rattle.meaning.proofs.Relations.{query-split}
 use Rattle.meaning.proofs.Stacks.{by-lt, stack-keeps}
-use Rattle.bounds.specs.Catalog.{boundAt}
+use Rattle.catalog.specs.Arrays.{boundAt}
 use Rattle.language.specs.Legal.{tableAt}
 use Rattle.language.specs.Written.{tableBytes, keyBytes, viewBytes, goalBytes, fileFrames}
-use Rattle.rules.specs.Plans.{frameOf, PlanOf}
-use Rattle.rules.specs.declared.plan.Plan.{Plan}
+use Rattle.checker.specs.Plans.{frameOf, PlanOf}
+use Rattle.checker.specs.declared.plan.Plan.{Plan}
 use Rattle.language.proofs.SoundFrames.{regroup}
 use Rattle.cases.specs.Given.{FirstKey, Filled, TablesCounted, Outlines}
 use Rattle.cases.specs.declared.outline.Outline.{Outline}

@@ -28,7 +28,7 @@ use Rattle.meaning.proofs.Stacks.{getElem-some}
 use Rattle.language.proofs.LegalAccepted.{legal-wellFormed}
 use Rattle.language.specs.Legal.{Legal}
 use Rattle.language.specs.Written.{viewBytes}
-use Rattle.bounds.specs.Catalog.{widthAt}
+use Rattle.catalog.specs.Arrays.{widthAt}
 use Rattle.store.specs.Layout.{area}
 use Rattle.store.specs.Rows.{rowsIn}
 use Rattle.cases.specs.Given.{Given}

@@ -12,11 +12,11 @@ use Rattle.meaning.specs.Lists.{isPos, any}
 use Rattle.meaning.specs.Syntax.{View, File, Database}
 use Rattle.meaning.specs.Algebra.{query}
 use Rattle.meaning.specs.Bounds.{schema, schemas}
-use Rattle.bounds.specs.Catalog.{widthAt, boundAt, maskAt}
+use Rattle.catalog.specs.Arrays.{widthAt, boundAt, maskAt}
 use Rattle.language.specs.Legal.{Legal, tableAt}
 use Rattle.language.specs.Written.{maskOf, tableBytes, keyBytes, viewBytes}
-use Rattle.rules.specs.Plans.{PlanOf}
-use Rattle.rules.specs.declared.plan.Plan.{Plan}
+use Rattle.checker.specs.Plans.{PlanOf}
+use Rattle.checker.specs.declared.plan.Plan.{Plan}
 use Rattle.store.specs.Rows.{rowsIn}
 use Rattle.cases.specs.declared.outline.Outline.{Outline}
 

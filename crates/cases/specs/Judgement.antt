@@ -11,7 +11,7 @@ use Rattle.meaning.specs.Rows.{rowsOf, rows}
 use Rattle.meaning.specs.Bounds.{Schema, schema, schemas, viewSchema}
 use Rattle.meaning.specs.Valid.{Shaped}
 use Rattle.meaning.specs.Cases.{refuted as refutedB, negative, isCase}
-use Rattle.bounds.specs.Catalog.{widthAt}
+use Rattle.catalog.specs.Arrays.{widthAt}
 use Rattle.language.specs.Written.{viewBytes}
 use Rattle.store.specs.Layout.{area}
 use Rattle.store.specs.Rows.{rowsIn}

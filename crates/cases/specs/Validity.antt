@@ -10,9 +10,9 @@ use Rattle.value.specs.Bag.{All}
 use Rattle.meaning.specs.Lists.{all, any, pairwise, each, joined}
 use Rattle.meaning.specs.Syntax.{Table, Pair, ForeignKey, File, Database}
 use Rattle.meaning.specs.Valid.{Shaped, differ, keyHolds, agrees, foreignKeyHolds, valid}
-use Rattle.bounds.specs.Catalog.{widthAt, maskAt}
+use Rattle.catalog.specs.Arrays.{widthAt, maskAt}
 use Rattle.language.specs.Legal.{LegalKey, LegalPair, tableAt}
-use Rattle.language.specs.Written.{maskOf, keyBytes}
+use Rattle.language.specs.Written.{maskOf, pairsBytes, keyBytes}
 use Rattle.store.specs.Rows.{rowIn, rowsIn}
 use Rattle.cases.specs.Given.{Given, TablesIn}
 use Rattle.cases.specs.declared.outline.Outline.{Outline}
@@ -37,9 +37,6 @@ pub record KeysHeld (shape counts : List ℕ) (work : List ℤ) (tables : ℕ) (
       → TablesIn F d counts work → r ≡ each keyHolds (F .tables) d
 
 -- ---- foreign keys: of every key that the bytes say
-
-abbrev pub pairsBytes : List Pair → List ℕ
-pairsBytes ps = joined (map (λ p. p .child ∷ p .parent ∷ []) ps)
 
 -- the columns of the rows are those of a child of c columns and a parent of p
 pub record Agreed (bytes : List ℕ) (at count : ℕ) (work : List ℤ) (child i parent j : ℕ) (r : Bool) : Type 0 where

@@ -1,6 +1,6 @@
 // What the evaluation of candidates needs of a plan, worked out once.
-use rules::catalog;
-use rules::plan::Plan;
+use catalog::arrays;
+use checker::plan::Plan;
 ghost use Prim.Native.Nat.{_≤_};
 ghost use Rattle.cases.specs.Given.{Outlines, FirstKey, Filled, TablesCounted};
 
@@ -37,7 +37,7 @@ fn some_row(shape: &[u8], tables: u8) -> bool
 {
     let mut t: u8 = 0;
     while t < tables {
-        if 0 < catalog::bound_of(shape, t) {
+        if 0 < arrays::bound_of(shape, t) {
             return true;
         }
         t += 1;
@@ -52,7 +52,7 @@ pub fn count_tables(shape: &[u8], tables: u8, counts: &mut [u8])
 {
     let mut t: u8 = 0;
     while t < tables {
-        let rows = catalog::bound_of(shape, t);
+        let rows = arrays::bound_of(shape, t);
         slice::put_byte(counts, t as usize, rows);
         t += 1;
     }

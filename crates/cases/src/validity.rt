@@ -1,6 +1,6 @@
 // Whether a database is valid: primary keys and foreign keys. Its values lie in their columns' ranges as a candidate's do.
 use super::outline::Outline;
-use rules::catalog;
+use catalog::arrays;
 ghost use mathlib.Core.Path.{_≡_};
 ghost use Prim.Native.Nat.{_≤_};
 ghost use lib.ListN.{length};
@@ -63,8 +63,8 @@ pub fn keys_hold(shape: &[u8], counts: &[u8], work: &[i32], tables: u8) -> bool
     let mut t: u8 = 0;
     while t < tables {
         let rows = slice::byte_at(counts, t as usize);
-        let width = catalog::width_of(shape, t);
-        let mask = catalog::mask_of(shape, t);
+        let width = arrays::width_of(shape, t);
+        let mask = arrays::mask_of(shape, t);
         if !key_holds(work, t, rows, width, mask) {
             return false;
         }

@@ -1,7 +1,7 @@
 // The proved functions as plain numbers, for C and Rust.
+use checker::plan;
 use look;
 use look::Answer;
-use rules::plan;
 ghost use mathlib.Core.Path.{_≡_};
 ghost use Rattle.language.specs.FileOf.{fileOf};
 ghost use Rattle.look.specs.Looks.{answerOf};

@@ -22,14 +22,22 @@ columnBytes c = highByte (c .lo) ∷ lowByte (c .lo) ∷ highByte (c .hi) ∷ lo
 unfoldable pub tableBytes : Table → List ℕ
 tableBytes t = 0x01 ∷ t .rows ∷ length (t .columns) ∷ maskOf (t .key) ∷ joined (map columnBytes (t .columns))
 
+-- "pairs child column, parent column"
+abbrev pub pairsBytes : List Pair → List ℕ
+pairsBytes ps = joined (map (λ p. p .child ∷ p .parent ∷ []) ps)
+
 -- "02 foreign key: child table, parent table, count .., then pairs child column, parent column"
 unfoldable pub keyBytes : ForeignKey → List ℕ
-keyBytes k = 0x02 ∷ k .child ∷ k .parent ∷ length (k .pairs) ∷ joined (map (λ p. p .child ∷ p .parent ∷ []) (k .pairs))
+keyBytes k = 0x02 ∷ k .child ∷ k .parent ∷ length (k .pairs) ∷ pairsBytes (k .pairs)
 
 -- "05 union, 06 intersection"
 abbrev pub setKind : SetOperation → ℕ
 setKind SetOperation.union = 0x05
 setKind SetOperation.intersection = 0x06
+
+-- "the grouping columns (from item, column)"
+abbrev pub placesBytes : List Place → List ℕ
+placesBytes gs = joined (map (λ p. p .item ∷ p .column ∷ []) gs)
 
 -- "03 basic view: from count .., that many earlier relations, select count .., a where condition, the select expressions", "04 aggregate
 -- view: from count and relations as in 03, grouping count .., select count .., where, the grouping columns .., having, the select
@@ -37,7 +45,7 @@ setKind SetOperation.intersection = 0x06
 unfoldable pub viewBytes : View → List ℕ
 viewBytes (View.basic fs w es) = 0x03 ∷ length fs ∷ fs ++ (length es ∷ encodeC w ++ joined (map encodeE es))
 viewBytes (View.grouped fs w gs h es) =
-    0x04 ∷ length fs ∷ fs ++ (length gs ∷ length es ∷ encodeC w ++ joined (map (λ p. p .item ∷ p .column ∷ []) gs) ++ encodeC h ++ joined (map encodeE es))
+    0x04 ∷ length fs ∷ fs ++ (length gs ∷ length es ∷ encodeC w ++ placesBytes gs ++ encodeC h ++ joined (map encodeE es))
 viewBytes (View.set op i j) = setKind op ∷ i ∷ j ∷ []
 
 -- "07 goal: a view, sign (0 positive, 1 negative)"

@@ -11,7 +11,7 @@ use Rattle.value.proofs.Places.{element-here}
 use Rattle.meaning.specs.Lists.{copies}
 use Rattle.meaning.specs.Syntax.{Table, File}
 use Rattle.meaning.specs.Candidates.{cellColumns}
-use Rattle.bounds.specs.Catalog.{widthAt, boundAt}
+use Rattle.catalog.specs.Arrays.{widthAt, boundAt}
 use Rattle.language.specs.Legal.{LegalTable, tableAt}
 use Rattle.store.specs.Rows.{listed}
 use Rattle.store.proofs.Listed.{length-listed}

@@ -16,8 +16,8 @@ use Rattle.meaning.specs.Look.{Answer, After, seek, zeros, workSize, refusal, c
 use Rattle.meaning.proofs.LookTests.{look-short, look-late, look-on, verdict-case, verdict-none}
 use Rattle.language.specs.Check.{Outcome}
 use Rattle.language.specs.FileOf.{fileOf}
-use Rattle.rules.specs.Plans.{Plans}
-use Rattle.rules.specs.declared.plan.Plan.{Plan}
+use Rattle.checker.specs.Plans.{Plans}
+use Rattle.checker.specs.declared.plan.Plan.{Plan}
 use Rattle.language.proofs.TextLaws.{accepted-text}
 use Rattle.cases.specs.Given.{Given, Outlines}
 use Rattle.cases.specs.declared.outline.Outline.{Outline}

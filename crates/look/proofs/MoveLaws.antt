@@ -12,7 +12,7 @@ use mir.Val.{Fits}
 use Rattle.value.specs.Value.{Value, Column, size, digit, narrowed}
 use Rattle.meaning.specs.Syntax.{File}
 use Rattle.meaning.specs.Candidates.{cellColumns, product, values, cells}
-use Rattle.rules.specs.Entries.{columnFrom}
+use Rattle.checker.specs.Entries.{columnFrom}
 use Rattle.store.specs.Layout.{area, putCell}
 use Rattle.store.proofs.CellLaws.{put-cell-length}
 use Rattle.look.specs.Cells.{codesOf, cellsIn}

@@ -15,13 +15,13 @@ use Rattle.meaning.specs.Candidates.{cellColumns, cutRows, cut, cells, database
 use Rattle.meaning.proofs.Elements.{all-append}
 use Rattle.meaning.proofs.ListSteps.{map-at}
 use Rattle.meaning.proofs.Numbering.{length-joined, cut-joined}
-use Rattle.bounds.specs.Catalog.{widthAt, boundAt}
-use Rattle.rules.specs.Entries.{columnFrom}
-use Rattle.rules.specs.Packed.{columnsFrom}
+use Rattle.catalog.specs.Arrays.{widthAt, boundAt}
+use Rattle.checker.specs.Entries.{columnFrom}
+use Rattle.checker.specs.Packed.{columnsFrom}
 use Rattle.language.specs.Legal.{Legal, LegalTable, tableAt}
 use Rattle.language.specs.Written.{columnBytes, tableBytes}
-use Rattle.rules.proofs.CandidateLaws.{columns-back}
-use Rattle.rules.proofs.PlanLaws.{legal-bits}
+use Rattle.checker.proofs.CandidateLaws.{columns-back}
+use Rattle.checker.proofs.PlanLaws.{legal-bits}
 use Rattle.store.specs.Layout.{cellIn}
 use Rattle.store.specs.Rows.{listed, rowIn, rowsIn}
 use Rattle.store.proofs.Listed.{listed-same, length-listed, listed-getD}

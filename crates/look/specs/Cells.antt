@@ -7,7 +7,7 @@ use lib.IntN.{ℤ}
 use lib.ListN.{length, getD, take}
 use Rattle.value.specs.Value.{Value}
 use Rattle.meaning.specs.Syntax.{File}
-use Rattle.bounds.specs.Catalog.{widthAt, boundAt}
+use Rattle.catalog.specs.Arrays.{widthAt, boundAt}
 use Rattle.language.specs.Legal.{tableAt}
 use Rattle.store.specs.Layout.{cellIn}
 use Rattle.store.specs.Rows.{listed}

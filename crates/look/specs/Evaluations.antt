@@ -10,8 +10,8 @@ use Rattle.meaning.specs.Syntax.{File, Database}
 use Rattle.meaning.specs.Algebra.{MeaningOf}
 use Rattle.meaning.specs.Bounds.{schemas}
 use Rattle.language.specs.FileOf.{fileOf}
-use Rattle.rules.specs.Plans.{Plans}
-use Rattle.rules.specs.declared.plan.Plan.{Plan}
+use Rattle.checker.specs.Plans.{Plans}
+use Rattle.checker.specs.declared.plan.Plan.{Plan}
 use Rattle.store.specs.Rows.{rowsIn}
 use Rattle.cases.specs.Given.{Outlines}
 use Rattle.cases.specs.Needs.{Flag, NeedsOf}

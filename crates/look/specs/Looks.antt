@@ -10,8 +10,8 @@ use Rattle.meaning.specs.Syntax.{File}
 use Rattle.meaning.specs.Candidates.{candidates}
 use Rattle.meaning.specs.Look.{Answer, After, workSize, refusal, look}
 use Rattle.language.specs.Legal.{Legal}
-use Rattle.rules.specs.Plans.{PlanOf}
-use Rattle.rules.specs.declared.plan.Plan.{Plan}
+use Rattle.checker.specs.Plans.{PlanOf}
+use Rattle.checker.specs.declared.plan.Plan.{Plan}
 use Rattle.cases.specs.Given.{Given}
 use Rattle.cases.specs.declared.outline.Outline.{Outline}
 use Rattle.look.specs.declared.Answer.{Answer as Answered}

@@ -7,7 +7,7 @@ use lib.ListN.{length, getD, take}
 use Rattle.value.specs.Value.{Column, size, digit, narrowed}
 use Rattle.meaning.specs.Syntax.{File}
 use Rattle.meaning.specs.Candidates.{cellColumns, cells}
-use Rattle.rules.specs.Entries.{columnFrom}
+use Rattle.checker.specs.Entries.{columnFrom}
 use Rattle.language.specs.Legal.{Legal}
 use Rattle.store.specs.Layout.{area, putCell}
 use Rattle.store.specs.Rows.{rowsIn}

@@ -1,5 +1,5 @@
 // The cells of the tables in the order of a candidate's digits. A cell goes by one number, its code, in which a table has 32 and a row 4.
-use rules::catalog;
+use catalog::arrays;
 ghost use Prim.Native.Nat.{_≤_};
 ghost use Rattle.look.specs.Cells.{RowCoded, TableCoded, TablesCoded};
 
@@ -40,8 +40,8 @@ pub fn cells_of(shape: &[u8], tables: u8, codes: &mut [u16]) -> u32
     let mut all: u32 = 0;
     let mut t: u8 = 0;
     while t < tables {
-        let rows = catalog::bound_of(shape, t);
-        let columns = catalog::width_of(shape, t);
+        let rows = arrays::bound_of(shape, t);
+        let columns = arrays::width_of(shape, t);
         all = add_table(t, rows, columns, all, codes);
         t += 1;
     }

@@ -6,8 +6,8 @@ pub mod scan;
 
 use cases::outline;
 use cases::outline::Outline;
-use rules::plan;
-use rules::plan::Plan;
+use checker::plan;
+use checker::plan::Plan;
 ghost use mathlib.Core.Path.{_≡_};
 ghost use Rattle.meaning.specs.Look.{After};
 ghost use Rattle.look.specs.Looks.{answerOf, Concludes, Finds, LooksAt};

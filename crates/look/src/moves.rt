@@ -1,6 +1,6 @@
 // From candidate to candidate: the cells of the tables in the work area.
 use cases::needs;
-use rules::catalog;
+use checker::entries;
 use store;
 use value::domain::Domain;
 ghost use mathlib.Core.Path.{_≡_};
@@ -22,7 +22,7 @@ fn domain_of(bytes: &[u8], starts: &[u32], code: u16) -> Domain
     let table = (code / 32 % 256) as u8;
     let column = (code % 4) as usize;
     let at = needs::frame_at(starts, table) + 4 + 4 * column;
-    catalog::domain_at(bytes, at)
+    entries::domain_at(bytes, at)
 }
 
 // A cell takes the last digit of the new quotient; both quotients go on without it.

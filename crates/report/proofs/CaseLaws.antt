@@ -15,8 +15,8 @@ use Rattle.text.proofs.Laws.{text-one}
 use Rattle.text.proofs.Writing.{length-line}
 use Rattle.language.specs.Check.{Outcome}
 use Rattle.language.specs.FileOf.{fileOf}
-use Rattle.rules.specs.Plans.{Plans, PlanOf}
-use Rattle.rules.specs.declared.plan.Plan.{Plan}
+use Rattle.checker.specs.Plans.{Plans, PlanOf}
+use Rattle.checker.specs.declared.plan.Plan.{Plan}
 use Rattle.language.proofs.TextLaws.{accepted-text}
 use Rattle.cases.proofs.OutlineLaws.{bound-is}
 use Rattle.cases.proofs.ValidLaws.{table-width}

@@ -20,8 +20,8 @@ use Rattle.language.specs.Check.{Outcome}
 use Rattle.language.specs.FileOf.{fileOf}
 use Rattle.language.specs.Legal.{Legal}
 use Rattle.language.proofs.TextLaws.{accepted-text}
-use Rattle.rules.specs.Plans.{Plans}
-use Rattle.rules.specs.declared.plan.Plan.{Plan}
+use Rattle.checker.specs.Plans.{Plans}
+use Rattle.checker.specs.declared.plan.Plan.{Plan}
 use Rattle.look.specs.Looks.{answerOf, LooksAt}
 use Rattle.language.specs.LookOf.{lookOf}
 use Rattle.look.specs.declared.Answer.{Answer as Answered}

@@ -13,7 +13,7 @@ use Rattle.meaning.specs.Syntax.{Table, File}
 use Rattle.meaning.specs.Candidates.{cellColumns, cutRows, cut}
 use Rattle.meaning.proofs.Elements.{all-at}
 use Rattle.meaning.proofs.Numbering.{length-cutRows, joined-cutRows}
-use Rattle.bounds.specs.Catalog.{widthAt, boundAt}
+use Rattle.catalog.specs.Arrays.{widthAt, boundAt}
 use Rattle.language.specs.Legal.{LegalTable, tableAt}
 use Rattle.look.proofs.CodeLaws.{length-copies}
 use Rattle.language.specs.OutputOf.{numberBytes, tableFrame, tableFrames}

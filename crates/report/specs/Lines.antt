@@ -9,7 +9,7 @@ use Rattle.meaning.specs.Syntax.{File}
 use Rattle.meaning.specs.Candidates.{cellCount, cut, cells}
 use Rattle.meaning.specs.Look.{Answer}
 use Rattle.text.specs.Text.{textOf}
-use Rattle.bounds.specs.Catalog.{widthAt, boundAt}
+use Rattle.catalog.specs.Arrays.{widthAt, boundAt}
 use Rattle.language.specs.Legal.{Legal, tableAt}
 use Rattle.language.specs.OutputOf.{numberBytes, tableFrames, answerFrames, outputRoom}
 

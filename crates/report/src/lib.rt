@@ -1,8 +1,8 @@
 // The program's output for a text.
+use catalog::arrays;
+use checker::plan;
 use look;
 use look::Answer;
-use rules::catalog;
-use rules::plan;
 use text;
 use value::integer;
 ghost use mathlib.Core.Path.{_≡_};
@@ -71,8 +71,8 @@ fn table_lines(shape: &[u8], tables: u8, cells: &[i16], out: &mut [u8], at: usiz
     let mut first: usize = 0;
     let mut t: u8 = 0;
     while t < tables {
-        let rows = catalog::bound_of(shape, t);
-        let columns = catalog::width_of(shape, t);
+        let rows = arrays::bound_of(shape, t);
+        let columns = arrays::width_of(shape, t);
         place = table_line(t, rows, columns, cells, first, out, place);
         first = first + (rows as usize) * (columns as usize);
         t = t + 1;

@@ -16,8 +16,8 @@ use Rattle.meaning.proofs.Demand2.{cases}
 use Rattle.meaning.proofs.Relations.{rows-mean}
 use Rattle.language.specs.Check.{Outcome}
 use Rattle.language.specs.FileOf.{fileOf}
-use Rattle.rules.specs.Plans.{Plans}
-use Rattle.rules.specs.declared.plan.Plan.{Plan}
+use Rattle.checker.specs.Plans.{Plans}
+use Rattle.checker.specs.declared.plan.Plan.{Plan}
 use Rattle.language.proofs.TextLaws.{accepted-text}
 use Rattle.store.specs.Layout.{area}
 use Rattle.cases.specs.Given.{Outlines, TablesIn, TablesCounted}

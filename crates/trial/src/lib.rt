@@ -3,7 +3,7 @@ use cases::judgement;
 use cases::needs;
 use cases::outline;
 use cases::outline::Outline;
-use rules::plan;
+use checker::plan;
 ghost use Rattle.language.specs.FileOf.{fileOf};
 ghost use Rattle.trial.specs.Tried.{EveryRelation, Tried};
 

@@ -1,7 +1,7 @@
 // Signed numbers: each function has one operation, and a contract over the whole numbers for every input.
 ghost use mathlib.Core.Path.{_≡_};
 ghost use mathlib.Core.Bool.{_&&_};
-ghost use Prim.Native.Nat.{_≤_, _^_};
+ghost use Prim.Native.Nat.{_+_, _≤_, _^_, min};
 ghost use lib.IntN.{pos, natAbs, _+ℤ_, _-ℤ_, _*ℤ_};
 ghost use lib.Signed.{ltZ, leZ};
 ghost use Rattle.value.specs.Integer.{narrow32, narrow16 as narrow16Z, equalZ, minZ, maxZ, nearest, roundZ, signedOf, bytesZ, bitsOf, highByte, lowByte};
@@ -268,4 +268,12 @@ pub fn to_bytes(x: i16) -> Bytes
         high: (n / 256) as u8,
         low: (n % 256) as u8,
     }
+}
+
+// At most 255.
+// Refused: 254 for 255; the second number twice.
+pub fn sum_of(a: u8, b: u8) -> u8
+    ensures { λ n. ⌜ n ≡ min (a + b) 255 ⌝ }
+{
+    if a <= 255 - b { a + b } else { 255 }
 }

@@ -1,0 +1,6 @@
+-- Laws of the arrays and of the frames in them.
+pub mod ArrayLaws
+pub mod TableLaws
+pub mod FrameLaws
+pub mod ViewParts
+pub mod FileLaws

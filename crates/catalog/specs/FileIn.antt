@@ -1,0 +1,59 @@
+-- A file in memory: the packed bytes of its frames, the places where those of its relations begin, the two arrays and the outline. Everything
+-- above the checker rests on this one relation. Assumes nothing: these are definitions.
+use mathlib.Core.Path.{_≡_}
+use mathlib.Core.Bool.{Bool}
+use mathlib.Core.List.{List, _++_, map}
+use mathlib.Core.Option.{some}
+use Prim.Native.Nat.{ℕ, _+_, _<_}
+use lib.IntN.{ℤ}
+use lib.ListN.{length, getD, drop}
+use Rattle.text.specs.Answers.{pack}
+use Rattle.meaning.specs.Lists.{isPos, any}
+use Rattle.meaning.specs.Syntax.{View, Goal, File}
+use Rattle.meaning.specs.Algebra.{query}
+use Rattle.meaning.specs.Bounds.{schema, schemas}
+use Rattle.meaning.specs.Candidates.{candidates}
+use Rattle.language.specs.Legal.{Legal, tableAt}
+use Rattle.language.specs.Written.{maskOf, keyBytes, viewBytes}
+use Rattle.catalog.specs.Arrays.{boundAt, maskAt, schemaIn}
+use Rattle.catalog.specs.Frames.{frameIn}
+use Rattle.catalog.specs.declared.outline.Outline.{Outline}
+use Rattle.catalog.specs.declared.plan.Goal.{Goal as GoalHere}
+use Rattle.catalog.specs.declared.plan.Plan.{Plan}
+
+pub record FileIn (F : File) (bytes starts shape : List ℕ) (ends : List ℤ) (o : Outline) : Type 0 where
+  pub legal : Legal F
+  pub tables : o .tables ≡ length (F .tables)
+  pub keys : o .keys ≡ length (F .keys)
+  pub relations : o .relations ≡ length (F .tables) + length (F .views)
+  -- the frame of each view, and those of the foreign keys, one behind the other
+  pub views : (v : ℕ) (q : View) → query (length (F .tables)) F v ≡ some q → frameIn bytes starts v ≡ viewBytes q
+  pub foreign : (rest : List ℕ) × (drop (o .foreign) bytes ≡ pack (map keyBytes (F .keys)) ++ rest)
+  -- the row bound and the ranges of each relation, and the key of each table
+  pub known : (i : ℕ) → schemaIn shape ends i ≡ schema (schemas F) i
+  pub masks : (i : ℕ) → i < length (F .tables) → maskAt shape i ≡ maskOf (tableAt (F .tables) i .key)
+  -- "some table has a row"
+  pub filled : o .filled ≡ any (λ t. isPos (t .rows)) (F .tables)
+
+-- ---- the plan of an accepted file
+
+abbrev pub goalOf : GoalHere → Goal
+goalOf g = record { view = g .view; negative = g .negative }
+
+pub record PlanOf (F : File) (p : Plan) : Type 0 where
+  pub number : p .number ≡ 0
+  pub line : p .line ≡ 0
+  pub file : FileIn F (p .bytes) (p .starts) (p .shape) (p .ends) (p .outline)
+  pub goal : goalOf (p .goal) ≡ F .goal
+  pub candidates-are : p .candidates ≡ candidates F
+
+-- ---- what the code gives
+
+-- whether a table has a row, of any file whose tables have these row bounds
+pub record SomeRow (shape : List ℕ) (tables : ℕ) (r : Bool) : Type 0 where
+  pub some-row : (F : File) → length (F .tables) ≡ tables → ((i : ℕ) → boundAt shape i ≡ schema (schemas F) i .bound) → r ≡ any (λ t. isPos (t .rows)) (F .tables)
+
+-- `counts` gets the row bounds of the tables, which are their numbers of rows
+pub record TablesCounted (shape : List ℕ) (tables : ℕ) (counts counts′ : List ℕ) : Type 0 where
+  pub size : length counts′ ≡ length counts
+  pub counted : (t : ℕ) → t < tables → t < length counts → getD counts′ t 0 ≡ boundAt shape t

@@ -1,0 +1,42 @@
+-- Frames in the packed bytes of a file, each behind its length, and the parts of a view's frame. Assumes nothing: these are definitions, and
+-- they compute.
+use mathlib.Core.Bool.{Bool, cond}
+use mathlib.Core.List.{List}
+use Prim.Native.Nat.{ℕ, _+_}
+use lib.Dec.{eqb, ltb}
+use lib.ListN.{getD, take, drop}
+use Rattle.meaning.specs.Syntax.{View}
+use Rattle.language.specs.Written.{setKind}
+use Rattle.catalog.specs.declared.frames.Parts.{Parts}
+
+-- the frame whose length stands at a place; where the bytes end early, what there is of it
+unfoldable pub frameAt : List ℕ → ℕ → List ℕ
+frameAt bytes at = take (getD bytes at 0) (drop (at + 1) bytes)
+
+-- the frame of relation r; `starts` has the place of each
+abbrev pub frameIn : List ℕ → List ℕ → ℕ → List ℕ
+frameIn bytes starts r = frameAt bytes (getD starts r 0)
+
+-- ---- the parts of a view's frame
+
+-- the first byte
+abbrev pub kindOf : View → ℕ
+kindOf (View.basic fs w es) = 0x03
+kindOf (View.grouped fs w gs h es) = 0x04
+kindOf (View.set op i j) = setKind op
+
+-- the relations that it names: the from list behind its length, or the two operands of a set view
+unfoldable pub namesIn : List ℕ → List ℕ
+namesIn frame = cond (ltb (getD frame 0 0) 5) (take (getD frame 1 0) (drop 2 frame)) (take 2 (drop 1 frame))
+
+-- how many grouping columns and select expressions follow n from items, and where the where condition begins behind these counts: an
+-- aggregate view has one count more than a basic one
+unfoldable pub partsAfter : Bool → ℕ → List ℕ → Parts
+partsAfter grouped n frame = record {
+  groups = cond grouped (getD frame (n + 2) 0) 0;
+  width = getD frame (n + cond grouped 3 2) 0;
+  body = n + cond grouped 4 3;
+}
+
+unfoldable pub partsIn : List ℕ → Parts
+partsIn frame = partsAfter (eqb (getD frame 0 0) 4) (getD frame 1 0) frame

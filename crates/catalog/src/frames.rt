@@ -1,0 +1,93 @@
+// Frames in the packed bytes of a file, and the parts of a view's frame.
+use slice::byte_at;
+ghost use mathlib.Core.Path.{_≡_};
+ghost use Prim.Native.Nat.{_+_, min};
+ghost use lib.ListN.{length, getD, take, drop};
+ghost use Rattle.catalog.specs.Frames.{frameAt, frameIn, namesIn, partsIn};
+
+// The kind of an aggregate view; the kinds of set views are above it.
+const GROUPED: u8 = 4;
+
+// Of a basic or an aggregate view: how many grouping columns and select expressions it has, and where its where condition begins. Behind
+// that stand the grouping columns, having and the select expressions.
+pub struct Parts {
+    pub groups: u8,
+    pub width: u8,
+    pub body: usize,
+}
+
+// A place, or the end of the bytes.
+fn inside(bytes: &[u8], at: usize) -> usize
+    ensures { λ r. ⌜ r ≡ min at (length (now (bytes .entry))) ⌝ }
+{
+    if at < bytes.len() { at } else { bytes.len() }
+}
+
+// At most n bytes from a place on.
+fn part(bytes: &[u8], at: usize, n: u8) -> &[u8]
+    ensures { λ r. ⌜ now r ≡ take n (drop at (now (bytes .entry))) ⌝ }
+{
+    let from = inside(bytes, at);
+    let to = inside(bytes, from + (n as usize));
+    &bytes[from..to]
+}
+
+// The frame whose length stands at a place; where the bytes end early, what there is of it.
+// Refused: the length with it; one byte less.
+pub fn frame_at(bytes: &[u8], at: usize) -> &[u8]
+    ensures { λ r. ⌜ now r ≡ frameAt (now (bytes .entry)) at ⌝ }
+{
+    let size = byte_at(bytes, at);
+    let before = inside(bytes, at);
+    part(bytes, before + 1, size)
+}
+
+// The place of a relation's frame, its length first.
+fn start_of(starts: &[u32], r: u8) -> usize
+    ensures { λ n. ⌜ n ≡ getD (now (starts .entry)) r 0 ⌝ }
+{
+    let i = r as usize;
+    if starts.len() <= i {
+        return 0;
+    }
+    starts[i] as usize
+}
+
+// The frame of a relation.
+// Refused: the first relation's; the place of its length one too far.
+pub fn frame_of<'a>(bytes: &'a [u8], starts: &[u32], r: u8) -> &'a [u8]
+    ensures { λ f. ⌜ now f ≡ frameIn (now (bytes .entry)) (now (starts .entry)) r ⌝ }
+{
+    frame_at(bytes, start_of(starts, r))
+}
+
+// The relations that a view's frame names.
+// Refused: the from list's length with it; the first operand alone.
+pub fn names(frame: &[u8]) -> &[u8]
+    ensures { λ r. ⌜ now r ≡ namesIn (now (frame .entry)) ⌝ }
+{
+    if GROUPED < byte_at(frame, 0) {
+        return part(frame, 1, 2);
+    }
+    part(frame, 2, byte_at(frame, 1))
+}
+
+// The parts of a basic or an aggregate view's frame.
+// Refused: a grouping count of basic views; the where condition one byte too far.
+pub fn parts_of(frame: &[u8]) -> Parts
+    ensures { λ r. ⌜ r ≡ partsIn (now (frame .entry)) ⌝ }
+{
+    let items = byte_at(frame, 1) as usize;
+    if byte_at(frame, 0) == GROUPED {
+        return Parts {
+            groups: byte_at(frame, items + 2),
+            width: byte_at(frame, items + 3),
+            body: items + 4,
+        };
+    }
+    Parts {
+        groups: 0,
+        width: byte_at(frame, items + 2),
+        body: items + 3,
+    }
+}

@@ -1,0 +1,389 @@
+-- The rules on a view's frame: what the loop over the select expressions has found, and from the answers of the walks the answer for the
+-- frame that its bytes are read as. Assumes nothing.
+use mathlib.Core.Path.{_≡_, refl, sym, ap, ap₂, subst, _∙_}
+use mathlib.Core.Bool.{Bool, true, false, _&&_, cond, and-assoc}
+use mathlib.Core.List.{List, [], _∷_, _++_, foldr, map, map-append}
+use Prim.Native.Nat.{ℕ, _+_, _-_, _*_, _%_, _≤_, _<_}
+use native.Mathlib.Nat.{mul-assoc}
+use native.Mathlib.Numerals.{add-one}
+use native.Mathlib.Omega.{arith}
+use lib.Dec.{leb}
+use lib.IntN.{ℤ}
+use lib.ListN.{length, getD, take, drop, length-drop}
+use lib.Seq.{length-take-le}
+use borrow.Author.Tests.{leb-true}
+use Rattle.value.specs.Bag.{All}
+use Rattle.value.proofs.Decides.{by-test, and-parts}
+use Rattle.value.proofs.Values.{all-map}
+use Rattle.range.specs.declared.Range.{Range}
+use Rattle.range.specs.declared.Ranged.{Ranged}
+use Rattle.range.specs.declared.Ranged.the-variants.{Within, Beyond}
+use Rattle.meaning.specs.Lists.{all}
+use Rattle.meaning.specs.Syntax.{Expr, Cond, Place, View}
+use Rattle.language.specs.Reading.{Read, Reader, andThen, readE, readC}
+use Rattle.meaning.specs.Bounds.{Schema, schema, viewSchema, itemRanges, productBound, range, withinE, withinC, allowedE, allowedC, anyColumn, groupingColumn}
+use Rattle.meaning.proofs.Elements.{all-given, map-same}
+use Rattle.language.proofs.Readers.{then-ok}
+use Rattle.catalog.specs.Arrays.{widthAt, boundAt, rangesFrom, rangesIn, itemsIn, putRange, putShape, Outside}
+use Rattle.bounds.specs.Walk.{placesFrom, columnsOf, widthsIn, rangedE, isWithin, SizesE, TestsC}
+use Rattle.bounds.specs.declared.Rule.{Rule}
+use Rattle.bounds.specs.declared.Sized.{Sized}
+use Rattle.bounds.specs.declared.Tested.{Tested}
+use Rattle.bounds.proofs.Parts.{ranged-is}
+use Rattle.language.specs.Draft.{Draft, Item, added, relationCount, schemasOf, width}
+use Rattle.language.specs.Frames.{times, field, fromList, placeField, basicFrame, groupedFrame, wholeFault}
+use Rattle.checker.specs.Catalogued.{Catalogued}
+use Rattle.checker.specs.ViewRules.{factorAt, productOf, Product, putRanged, viewFault, Room, Selects, Answer, Tail, Rules}
+use Rattle.checker.specs.declared.view_rules.Ruled.{Ruled}
+use Rattle.catalog.proofs.ArrayLaws.{put-length, put-next, put-outside, outside-same, outside-more, outside-ranges}
+use Rattle.checker.proofs.EntryLaws.{view-entered}
+use Rattle.checker.proofs.FixedLaws.{bound-known}
+use Rattle.checker.proofs.ViewByteLaws.{widths-are}
+use Rattle.checker.proofs.ViewFields.{fieldAt, all-snoc, drop-as, part-is, times-snoc, byte-read, from-read, places-read, view-read, GroupedRead, grouped-read}
+
+-- ---- the answer for a frame whose from list is `items`
+
+record BasicOf (frame items shape : List ℕ) (ends : List ℤ) (r : ℕ) (ends′ : List ℤ) (a : Ruled) : Type 0 where
+  ruled : Room shape ends items r → length items ≤ 3 → fieldAt frame items 2 ≤ 8 → (w : Cond) (es : List Expr) (mid rest : List ℕ)
+      → readC (widthsIn shape items) (drop (length items + 3) frame) ≡ Read.ok w mid
+      → times (fieldAt frame items 2) (readE (widthsIn shape items)) mid ≡ Read.ok es rest
+      → let I = itemsIn shape ends items in let R = productOf shape items in
+      Answer (allowedC anyColumn false w && all (allowedE anyColumn false) es) (withinC I R w && all (withinE I R) es) es I R r ends ends′ a
+
+record GroupedOf (frame items shape : List ℕ) (ends : List ℤ) (r : ℕ) (ends′ : List ℤ) (a : Ruled) : Type 0 where
+  ruled : Room shape ends items r → length items ≤ 3 → fieldAt frame items 3 ≤ 8 → (w : Cond) (gs : List Place) (h : Cond) (es : List Expr)
+      (mid mid′ mid″ rest : List ℕ)
+      → readC (widthsIn shape items) (drop (length items + 4) frame) ≡ Read.ok w mid
+      → times (fieldAt frame items 2) (placeField (widthsIn shape items)) mid ≡ Read.ok gs mid′
+      → readC (widthsIn shape items) mid′ ≡ Read.ok h mid″
+      → times (fieldAt frame items 3) (readE (widthsIn shape items)) mid″ ≡ Read.ok es rest
+      → let I = itemsIn shape ends items in let R = productOf shape items in
+      Answer (allowedC anyColumn false w && (allowedC (groupingColumn gs) true h && all (allowedE (groupingColumn gs) true) es))
+      (withinC I R w && (withinC I R h && all (withinE I R) es)) es I R r ends ends′ a
+
+-- ---- the row bound
+
+pub product-three : (shape items : List ℕ) (p : ℕ) → p ≡ factorAt shape items 0 * factorAt shape items 1 * factorAt shape items 2 → Product shape items p
+unfolding factorAt productOf
+product-three shape items p e = record { product = λ h. e ∙ go items h }
+  where
+    go : (items : List ℕ) → length items ≤ 3 → factorAt shape items 0 * factorAt shape items 1 * factorAt shape items 2 ≡ productOf shape items
+    go [] h = refl
+    go (a ∷ []) h = omega arith
+    go (a ∷ b ∷ []) h = mul-assoc (boundAt shape a) (boundAt shape b) 1
+    go (a ∷ b ∷ c ∷ []) h =
+        let one : boundAt shape c ≡ boundAt shape c * 1 = omega arith in
+        mul-assoc (boundAt shape a) (boundAt shape b) (boundAt shape c) ∙ ap (λ k. boundAt shape a * (boundAt shape b * k)) one
+    go (a ∷ b ∷ c ∷ x ∷ items) h = absurd (omega arith)
+
+-- ---- the select expressions
+
+-- the relations of the from list are as they were
+items-same : (shape : List ℕ) {r : ℕ} {ends ends′ : List ℤ} → Outside r ends ends′ → ((i : ℕ) → widthAt shape i ≤ 8)
+    → (fs : List ℕ) → All (λ i. i < r) fs → itemsIn shape ends′ fs ≡ itemsIn shape ends fs
+items-same shape o w [] All.nil = refl
+items-same shape o w (f ∷ fs) (All.cons h t) =
+    ap₂ _∷_ (outside-ranges o f (widthAt shape f) (λ e. omega arith) (w f)) (items-same shape o w fs t)
+
+ranged-outside : (ends : List ℤ) (r c : ℕ) (x : Ranged) → c < 8 → Outside r ends (putRanged ends r c x)
+unfolding putRanged
+ranged-outside ends r c (Within x) h = put-outside ends r c x h
+ranged-outside ends r c Beyond h = outside-same r ends
+
+pub ranged-length : (ends : List ℤ) (r c : ℕ) (x : Ranged) → length (putRanged ends r c x) ≡ length ends
+unfolding putRanged
+ranged-length ends r c (Within x) = put-length ends r c x
+ranged-length ends r c Beyond = refl
+
+ranged-put : (ends : List ℤ) (r c : ℕ) (I : List (List Range)) (R : ℕ) (e : Expr) → withinE I R e ≡ true
+    → putRanged ends r c (rangedE I R e) ≡ putRange ends r c (range I R e)
+unfolding putRanged rangedE
+ranged-put ends r c I R e h = rw h
+
+module _ (frame : List ℕ) (start : ℕ) (items shape : List ℕ) (ends : List ℤ) (r : ℕ) (rule : Rule) where
+  -- c expressions have been walked, and the next begins at `at`
+  pub record SelectsTo (c : ℕ) (now : List ℤ) (at : ℕ) (allowed within : Bool) : Type 0 where
+    pub so-far : Selects frame start c items shape ends r rule now allowed within
+    pub next : (es : List Expr) (rest : List ℕ) → times c (readE (widthsIn shape items)) (drop start frame) ≡ Read.ok es rest → drop at frame ≡ rest
+
+  pub selects-none : SelectsTo 0 ends start true true
+  unfolding rangesFrom
+  selects-none = record {
+    so-far = record {
+      outside = λ _. outside-same r ends;
+      selects = λ room l es rest h.
+          let e : [] ≡ es = cc in (
+            ap (all (allowedE (columnsOf frame rule) (rule .grouped))) e,
+            ap (all (withinE (itemsIn shape ends items) (rule .bound))) e,
+            λ _. ap (map (range (itemsIn shape ends items) (rule .bound))) e,
+          );
+    };
+    next = λ es rest h. cc;
+  }
+
+  pub selects-more : (c : ℕ) (now now′ : List ℤ) (at : ℕ) (allowed within fits : Bool) (z : Sized) → SelectsTo c now at allowed within
+      → SizesE frame at items shape now rule z → fits ≡ isWithin (z .range) → now′ ≡ putRanged now r c (z .range)
+      → SelectsTo (c + 1) now′ (z .next) (allowed && z .allowed) (within && fits)
+  selects-more c now now′ at allowed within fits z s y f q = record {
+    so-far = record {
+      outside = λ l. outside-more (s .so-far .outside (omega arith)) (rw q (ranged-outside now r c (z .range) (omega arith)));
+      selects = λ room l es rest h.
+          let reader = readE (widthsIn shape items) in
+          let I = itemsIn shape ends items in
+          let R = rule .bound in
+          let (es₀, x, mid, u, v, w) = times-snoc reader c (drop start frame) es rest (rw (add-one c) at h) in
+          let (a, b, ranges) = s .so-far .selects room (omega arith) es₀ mid u in
+          let o : Outside r ends now = s .so-far .outside (omega arith) in
+          let same : itemsIn shape now items ≡ I = items-same shape o (room .widths) items (room .earlier) in
+          let (_, al, rg) = y .sizes x rest (ap reader (s .next es₀ mid u) ∙ v) in
+          let rg′ : z .range ≡ rangedE I R x = rg ∙ ap (λ i. rangedE i R x) same in
+          let fit : fits ≡ withinE I R x = f ∙ ap isWithin rg′ ∙ ranged-is I R x in
+          let P = allowedE (columnsOf frame rule) (rule .grouped) in (
+            ap₂ _&&_ a al ∙ sym (all-snoc P es₀ x) ∙ ap (all P) (sym w),
+            ap₂ _&&_ b fit ∙ sym (all-snoc (withinE I R) es₀ x) ∙ ap (all (withinE I R)) (sym w),
+            λ t.
+                let (t₀, t₁) = and-parts within fits t in
+                let put : now′ ≡ putRange now r c (range I R x) = q ∙ ap (putRanged now r c) rg′ ∙ ranged-put now r c I R x (sym fit ∙ t₁) in
+                let long : 16 * r + 2 * c + 1 < length now = omega (arith, room .place, room .size, o .size) in
+                ap (λ m. rangesFrom m (16 * r) (c + 1)) put ∙ put-next now r c (range I R x) long
+                ∙ ap (λ rs. rs ++ (range I R x ∷ [])) (ranges t₀) ∙ sym (map-append (range I R) es₀ (x ∷ [])) ∙ ap (map (range I R)) (sym w),
+          );
+    };
+    next = λ es rest h.
+        let reader = readE (widthsIn shape items) in
+        let (es₀, x, mid, u, v, w) = times-snoc reader c (drop start frame) es rest (rw (add-one c) at h) in
+        y .sizes x rest (ap reader (s .next es₀ mid u) ∙ v) .0;
+  }
+
+  pub selects-all : (c count : ℕ) (now : List ℤ) (at : ℕ) (allowed within : Bool) → SelectsTo c now at allowed within → c ≤ count → count ≤ c
+      → Selects frame start count items shape ends r rule now allowed within
+  selects-all c count now at allowed within s l h =
+      let e : c ≡ count = omega arith in
+      subst (λ n. Selects frame start n items shape ends r rule now allowed within) e (s .so-far)
+
+-- ---- the answer
+
+pub tail-ruled : (frame : List ℕ) (head : Tested) (count : ℕ) (items shape : List ℕ) (ends : List ℤ) (r : ℕ) (rule : Rule) (ends′ : List ℤ) (a : Ruled)
+    (allowed within : Bool) → Selects frame (head .next) count items shape ends r rule ends′ allowed within
+    → a .fault ≡ viewFault (head .allowed && allowed) (rule .bound) (head .within && within) → a .bound ≡ rule .bound % 256 → a .width ≡ count
+    → Tail frame head count items shape ends r rule ends′ a
+tail-ruled frame head count items shape ends r rule ends′ a allowed within s f b w = record {
+  ruled = λ room l es rest h.
+      let (p, q, g) = s .selects room l es rest h in
+      record {
+        fault = f ∙ ap₂ (λ u v. viewFault (head .allowed && u) (rule .bound) (head .within && v)) p q;
+        bound = b;
+        narrow = rw w l;
+        outside = s .outside l;
+        ranges = λ t. rw w (g (q ∙ and-parts (head .within) _ t .1));
+      };
+}
+
+answer-as : {A A′ W W′ : Bool} {es : List Expr} {I : List (List Range)} {R r : ℕ} {ends ends′ : List ℤ} {a : Ruled} → A ≡ A′ → W ≡ W′
+    → Answer A W es I R r ends ends′ a → Answer A′ W′ es I R r ends ends′ a
+answer-as {es = es} {I = I} {R = R} {r = r} {ends = ends} {ends′ = ends′} {a = a} p q x = rw (← p, ← q) x
+
+abbrev pub plainRule : ℕ → Rule
+plainRule bound = record { bound = bound; grouped = false; places = 0; count = 0 }
+
+abbrev pub groupedRule : ℕ → ℕ → ℕ → Rule
+groupedRule bound places g = record { bound = bound; grouped = true; places = places; count = g }
+
+module _ (frame items shape : List ℕ) (ends : List ℤ) (r : ℕ) (ends′ : List ℤ) (a : Ruled) (bound : ℕ) (w′ : Tested) (product : Product shape items bound) where
+  I : List (List Range)
+  I = itemsIn shape ends items
+
+  basic-ruled : (rule : Rule) (count : ℕ) → rule ≡ plainRule bound → count ≡ fieldAt frame items 2
+      → TestsC frame (length items + 3) items shape ends rule w′ → Tail frame w′ count items shape ends r rule ends′ a → BasicOf frame items shape ends r ends′ a
+  unfolding I columnsOf
+  basic-ruled rule count re ce t s = record {
+    ruled = λ room few narrow w es mid rest readW readS.
+        let t′ = subst (λ k. TestsC frame (length items + 3) items shape ends k w′) re t in
+        let s′ = subst (λ k. Tail frame w′ count items shape ends r k ends′ a) re s in
+        let (next, al, wi) = t′ .tests w mid readW in
+        let read : times count (readE (widthsIn shape items)) (drop (w′ .next) frame) ≡ Read.ok es rest =
+        ap₂ (λ k bs. times k (readE (widthsIn shape items)) bs) ce next ∙ readS in
+        let x = s′ .ruled room (rw ce narrow) es rest read in
+        subst (λ R. Answer (allowedC anyColumn false w && all (allowedE anyColumn false) es) (withinC I R w && all (withinE I R) es) es I R r ends ends′ a)
+        (product .product few)
+        (answer-as (ap (λ b. b && all (allowedE anyColumn false) es) al) (ap (λ b. b && all (withinE I bound) es) wi) x);
+  }
+
+  grouped-ruled : (rule : Rule) (g count places : ℕ) (h′ head : Tested) → rule ≡ plainRule bound → g ≡ fieldAt frame items 2 → count ≡ fieldAt frame items 3
+      → head ≡ record { next = h′ .next; allowed = w′ .allowed && h′ .allowed; within = w′ .within && h′ .within }
+      → TestsC frame (length items + 4) items shape ends rule w′ → drop places frame ≡ drop (w′ .next) frame
+      → TestsC frame (places + 2 * g) items shape ends (groupedRule bound places g) h′
+      → Tail frame head count items shape ends r (groupedRule bound places g) ends′ a → GroupedOf frame items shape ends r ends′ a
+  unfolding I columnsOf
+  grouped-ruled rule g count places h′ head re ge ce he t at u s = record {
+    ruled = λ room few narrow w gs h es mid mid′ mid″ rest readW readG readH readS.
+        let cols = widthsIn shape items in
+        let t′ = subst (λ k. TestsC frame (length items + 4) items shape ends k w′) re t in
+        let s′ = subst (λ k. Tail frame k count items shape ends r (groupedRule bound places g) ends′ a) he s in
+        let (next, al, wi) = t′ .tests w mid readW in
+        let (gp, gr) = places-read cols frame g places gs mid′ (ap₂ (λ k bs. times k (placeField cols) bs) ge (at ∙ next) ∙ readG) in
+        let (next′, al′, wi′) = u .tests h mid″ (ap (readC cols) (sym gr) ∙ readH) in
+        let x = s′ .ruled room (rw ce narrow) es rest (ap₂ (λ k bs. times k (readE cols) bs) ce next′ ∙ readS) in
+        let G = groupingColumn (placesFrom frame places g) in
+        let fit : ((w′ .allowed && h′ .allowed) && all (allowedE G true) es)
+        ≡ (allowedC anyColumn false w && (allowedC (groupingColumn gs) true h && all (allowedE (groupingColumn gs) true) es)) =
+        and-assoc (w′ .allowed) (h′ .allowed) (all (allowedE G true) es)
+        ∙ ap₂ (λ b c. b && (c && all (allowedE G true) es)) al al′
+        ∙ ap (λ k. allowedC anyColumn false w && (allowedC (groupingColumn k) true h && all (allowedE (groupingColumn k) true) es)) (sym gp) in
+        let within : ((w′ .within && h′ .within) && all (withinE I bound) es) ≡ (withinC I bound w && (withinC I bound h && all (withinE I bound) es)) =
+        and-assoc (w′ .within) (h′ .within) (all (withinE I bound) es)
+        ∙ ap₂ (λ b c. b && (c && all (withinE I bound) es)) wi wi′ in
+        subst (λ R. Answer (allowedC anyColumn false w && (allowedC (groupingColumn gs) true h && all (allowedE (groupingColumn gs) true) es))
+        (withinC I R w && (withinC I R h && all (withinE I R) es)) es I R r ends ends′ a)
+        (product .product few) (answer-as fit within x);
+  }
+
+-- ---- from the arrays to the draft
+
+no-fault : (A : Bool) (R : ℕ) (W : Bool) → viewFault A R W ≡ 0 → (R ≤ 64) × (W ≡ true)
+unfolding viewFault
+no-fault true R W h = by-test (leb R 64)
+    (λ t. (leb-true R 64 t, within W (rw t at h)))
+    (λ t. let z : _≡_ {A = ℕ} 8 0 = rw t at h in absurd (omega arith))
+  where
+    within : (W : Bool) → _≡_ {A = ℕ} (cond W 0 9) 0 → W ≡ true
+    within true h = refl
+    within false h = absurd (omega arith)
+no-fault false R W h = absurd (omega arith)
+
+-- what `Rules` says of one draft and one view
+record Ruling (d : Draft) (r : ℕ) (shape : List ℕ) (ends′ : List ℤ) (a : Ruled) (q : View) : Type 0 where
+  fault : a .fault ≡ wholeFault d (Item.view q)
+  entered : wholeFault d (Item.view q) ≡ 0 → Catalogued (added d (Item.view q)) (putShape shape r 2 (a .width) (a .bound) 0) ends′
+
+module _ (d : Draft) {shape : List ℕ} {ends : List ℤ} (c : Catalogued d shape ends) where
+  ranges-are : (fs : List ℕ) → itemRanges (schemasOf d) fs ≡ itemsIn shape ends fs
+  ranges-are fs = map-same (λ i. schema (schemasOf d) i .ranges) (rangesIn shape ends) (all-given (λ i. ap (λ (s : Schema). s .ranges) (sym (c .schemas i))) fs)
+
+  product-is : (fs : List ℕ) → productBound (schemasOf d) fs ≡ productOf shape fs
+  unfolding productOf
+  product-is fs =
+      ap (foldr _*_ 1) (map-same (λ i. schema (schemasOf d) i .bound) (boundAt shape) (all-given (bound-known c) fs))
+
+  module _ (r : ℕ) (e : r ≡ relationCount d) (l : r < 16) where
+    room-for : (fs : List ℕ) → All (λ i. i < relationCount d) fs → Room shape ends fs r
+    room-for fs h = record { place = l; size = c .ends-size; widths = c .widths; earlier = all-map (λ x k. omega arith) h }
+
+    answer-rules : (ends′ : List ℤ) (a : Ruled) (q : View) (A W : Bool) (es : List Expr) (I : List (List Range)) (R : ℕ)
+        → wholeFault d (Item.view q) ≡ viewFault A R W → viewSchema (schemasOf d) q ≡ record { bound = R; ranges = map (range I R) es }
+        → Answer A W es I R r ends ends′ a → Ruling d r shape ends′ a q
+    answer-rules ends′ a q A W es I R f v x = record {
+      fault = x .fault ∙ sym f;
+      entered = λ z.
+          let (small, t) = no-fault A R W (sym f ∙ z) in
+          let b : R ≡ a .bound = omega (arith, x .bound) in
+          view-entered d q r 2 (a .width) (a .bound) 0 shape ends (putShape shape r 2 (a .width) (a .bound) 0) ends′ c e l (x .narrow) refl (x .outside)
+          (v ∙ ap₂ (λ k rs. record { bound = k; ranges = rs }) b (sym (x .ranges t)));
+    }
+
+    module _ (ends′ : List ℤ) (a : Ruled) (q : View) (frame items : List ℕ) (list : items ≡ take (getD frame 1 0) (drop 2 frame)) where
+      basic-ruling : BasicOf frame items shape ends r ends′ a → basicFrame d (drop 1 frame) ≡ Read.ok (Item.view q) [] → Ruling d r shape ends′ a q
+      unfolding viewFault
+      basic-ruling B h =
+          let (fs, m₁, p₁, q₁) = then-ok (fromList d (drop 1 frame)) _ h in
+          let F = from-read d frame fs m₁ p₁ in
+          let (n, m₂, p₂, q₂) = then-ok (field 1 8 m₁) _ q₁ in
+          let (i, j, t, _) = byte-read 5 (λ b. leb 1 b && leb b 8) frame (length fs + 2) n m₂ (ap (field 1 8) (sym (F .behind)) ∙ p₂) in
+          let (w, m₃, p₃, q₃) = then-ok (readC (map (width d) fs) m₂) _ q₂ in
+          let (es, m₄, p₄, q₄) = then-ok (times n (readE (map (width d) fs)) m₃) _ q₃ in
+          let same : View.basic fs w es ≡ q = view-read (View.basic fs w es) q m₄ [] q₄ in
+          let B′ = subst (λ k. BasicOf frame k shape ends r ends′ a) (list ∙ sym (F .list)) B in
+          let start : m₂ ≡ drop (length fs + 3) frame = j ∙ drop-as frame (length fs + 2 + 1) (length fs + 3) (omega arith) in
+          let readW : readC (widthsIn shape fs) (drop (length fs + 3) frame) ≡ Read.ok w m₃ = ap₂ readC (sym (widths-are c fs)) (sym start) ∙ p₃ in
+          let readS : times (fieldAt frame fs 2) (readE (widthsIn shape fs)) m₃ ≡ Read.ok es m₄ =
+          ap₂ (λ k cols. times k (readE cols) m₃) (sym i) (sym (widths-are c fs)) ∙ p₄ in
+          let few : fieldAt frame fs 2 ≤ 8 = rw (← i) (leb-true n 8 (and-parts (leb 1 n) (leb n 8) t .1)) in
+          let A = allowedC anyColumn false w && all (allowedE anyColumn false) es in
+          subst (Ruling d r shape ends′ a) same
+          (answer-rules ends′ a (View.basic fs w es) _ _ es (itemsIn shape ends fs) (productOf shape fs)
+          (ap₂ (λ R I. cond A (cond (leb R 64) (cond (withinC I R w && all (withinE I R) es) 0 9) 8) 7) (product-is fs) (ranges-are fs))
+          (ap₂ (λ R I. record { bound = R; ranges = map (range I R) es }) (product-is fs) (ranges-are fs))
+          (B′ .ruled (room-for fs (F .earlier)) (F .few) few w es m₃ m₄ readW readS))
+
+      grouped-ruling : GroupedOf frame items shape ends r ends′ a → GroupedRead d frame q → Ruling d r shape ends′ a q
+      unfolding viewFault
+      grouped-ruling B G =
+          let fs = G .fs in
+          let T = G .trees in
+          let A = allowedC anyColumn false (T .w) && (allowedC (groupingColumn (T .gs)) true (T .h) && all (allowedE (groupingColumn (T .gs)) true) (T .es)) in
+          let B′ = subst (λ k. GroupedOf frame k shape ends r ends′ a) (list ∙ sym (G .from .list)) B in
+          let W = sym (widths-are c fs) in
+          subst (Ruling d r shape ends′ a) (T .same)
+          (answer-rules ends′ a (View.grouped fs (T .w) (T .gs) (T .h) (T .es)) _ _ (T .es) (itemsIn shape ends fs) (productOf shape fs)
+          (ap₂ (λ R I. cond A (cond (leb R 64) (cond (withinC I R (T .w) && (withinC I R (T .h) && all (withinE I R) (T .es))) 0 9) 8) 7)
+          (product-is fs) (ranges-are fs))
+          (ap₂ (λ R I. record { bound = R; ranges = map (range I R) (T .es) }) (product-is fs) (ranges-are fs))
+          (B′ .ruled (room-for fs (G .from .earlier)) (G .from .few) (G .narrow) (T .w) (T .gs) (T .h) (T .es) (T .mid) (T .mid′) (T .mid″) (T .rest)
+          (ap (λ cols. readC cols (drop (length fs + 4) frame)) W ∙ T .readW)
+          (ap (λ cols. times (fieldAt frame fs 2) (placeField cols) (T .mid)) W ∙ T .readG)
+          (ap (λ cols. readC cols (T .mid′)) W ∙ T .readH)
+          (ap (λ cols. times (fieldAt frame fs 3) (readE cols) (T .mid″)) W ∙ T .readS)))
+
+-- ---- the whole frame
+
+module _ (frame : List ℕ) (r : ℕ) (shape : List ℕ) (ends ends′ : List ℤ) (a : Ruled) where
+  -- the from list, where it ends, the row bound and the answer for the where
+  module _ (n : ℕ) (list : n ≡ getD frame 1 0) (long : n + 2 ≤ length frame) (bound : ℕ) (w : Tested)
+      (product : Product shape (take (n + 2 - 2) (drop 2 frame)) bound) where
+    abbrev items : List ℕ
+    items = take (n + 2 - 2) (drop 2 frame)
+
+    size : length items ≡ n
+    size = let m : n + 2 - 2 ≡ n = omega arith in
+        ap (λ k. length (take k (drop 2 frame))) m ∙ length-take-le n (drop 2 frame) (omega (arith, length-drop 2 frame))
+
+    -- a place behind the from list
+    place : (k m : ℕ) → n + 2 + k ≡ n + m → n + 2 + k ≡ length items + m
+    place k m e = e ∙ ap (λ j. j + m) (sym size)
+
+    pub basic-rules : (rule : Rule) (count : ℕ) → rule ≡ plainRule bound → count ≡ getD frame (n + 2) 0
+        → TestsC frame (n + 2 + 1) items shape ends rule w → Tail frame w count items shape ends r rule ends′ a → Rules basicFrame frame r shape ends ends′ a
+    basic-rules rule count re ce t s =
+        let first : n + 2 ≡ length items + 2 = ap (λ j. j + 2) (sym size) in
+        let B = basic-ruled frame items shape ends r ends′ a bound w product rule count re (ce ∙ ap (λ k. getD frame k 0) first)
+        (subst (λ k. TestsC frame k items shape ends rule w) (place 1 3 (omega arith)) t) s in
+        record {
+          fault = λ d q c e l h. basic-ruling d c r e l ends′ a q frame items (part-is frame n list) B h .fault;
+          entered = λ d q c e l h. basic-ruling d c r e l ends′ a q frame items (part-is frame n list) B h .entered;
+        }
+
+    pub grouped-rules : (rule : Rule) (g count places : ℕ) (h′ head : Tested) → rule ≡ plainRule bound → g ≡ getD frame (n + 2) 0
+        → count ≡ getD frame (n + 2 + 1) 0 → head ≡ record { next = h′ .next; allowed = w .allowed && h′ .allowed; within = w .within && h′ .within }
+        → TestsC frame (n + 2 + 2) items shape ends rule w → drop places frame ≡ drop (w .next) frame
+        → TestsC frame (places + 2 * g) items shape ends (groupedRule bound places g) h′
+        → Tail frame head count items shape ends r (groupedRule bound places g) ends′ a → Rules groupedFrame frame r shape ends ends′ a
+    grouped-rules rule g count places h′ head re ge ce he t at u s =
+        let first : n + 2 ≡ length items + 2 = ap (λ j. j + 2) (sym size) in
+        let B = grouped-ruled frame items shape ends r ends′ a bound w product rule g count places h′ head re (ge ∙ ap (λ k. getD frame k 0) first)
+        (ce ∙ ap (λ k. getD frame k 0) (place 1 3 (omega arith))) he
+        (subst (λ k. TestsC frame k items shape ends rule w) (place 2 4 (omega arith)) t) at u s in
+        record {
+          fault = λ d q c e l h. grouped-ruling d c r e l ends′ a q frame items (part-is frame n list) B (grouped-read d frame q h) .fault;
+          entered = λ d q c e l h. grouped-ruling d c r e l ends′ a q frame items (part-is frame n list) B (grouped-read d frame q h) .entered;
+        }
+
+  -- a frame that ends in its from list is none
+  module _ (short : length frame < getD frame 1 0 + 2) where
+    no-list : {P : Type 0} (d : Draft) (k : List ℕ → Reader Item) (q : Item) (rest : List ℕ)
+        → _≡_ {A = Read Item} (andThen (fromList d (drop 1 frame)) k) (Read.ok q rest) → P
+    no-list d k q rest h =
+        let (fs, m, p, _) = then-ok (fromList d (drop 1 frame)) k h in
+        let F = from-read d frame fs m p in
+        absurd (omega (arith, F .long))
+
+    pub basic-short : Rules basicFrame frame r shape ends ends′ a
+    basic-short = record {
+      fault = λ d q c e l h. no-list d _ (Item.view q) [] h;
+      entered = λ d q c e l h. no-list d _ (Item.view q) [] h;
+    }
+
+    pub grouped-short : Rules groupedFrame frame r shape ends ends′ a
+    grouped-short = record {
+      fault = λ d q c e l h. no-list d _ (Item.view q) [] h;
+      entered = λ d q c e l h. no-list d _ (Item.view q) [] h;
+    }

@@ -1,0 +1,70 @@
+-- The faults of the frames of fixed layout, as the code has them: the parts that repeat, and what the code promises of each frame for
+-- every draft that its arrays and counts stand for. Assumes nothing: these are definitions.
+use mathlib.Core.Path.{_≡_}
+use mathlib.Core.Bool.{Bool, true, false, cond}
+use mathlib.Core.List.{List}
+use Prim.Native.Nat.{ℕ, zero, suc, _+_, _/_, _%_, _<_}
+use lib.Dec.{leb, eqb}
+use lib.IntN.{ℤ}
+use lib.ListN.{length, getD}
+use Rattle.value.specs.Bag.{tick}
+use Rattle.meaning.specs.Syntax.{SetOperation}
+use Rattle.meaning.specs.Bounds.{setBound}
+use Rattle.language.specs.Draft.{Draft, relationCount}
+use Rattle.language.specs.Frames.{times, columnField, pairField, tableFrame, keyFrame, setFrame, goalFrame, noTable}
+use Rattle.checker.specs.Faults.{faultAt, first}
+use Rattle.checker.specs.Catalogued.{Catalogued, bodyFault}
+
+-- ---- the parts that repeat
+
+-- n columns of a table from a place on
+unfoldable pub columnsFault : List ℕ → ℕ → ℕ → ℕ
+columnsFault frame at n = faultAt frame at (times n columnField)
+
+-- n pairs of a foreign key, between tables of c and p columns
+unfoldable pub pairsFault : List ℕ → ℕ → ℕ → ℕ → ℕ → ℕ
+pairsFault frame c p at n = faultAt frame at (times n (pairField c p))
+
+-- how often column i is the parent column of n pairs
+unfoldable pub parentCount : List ℕ → ℕ → ℕ → ℕ → ℕ
+parentCount frame i at zero = 0
+parentCount frame i at (suc n) = tick (eqb (getD frame (at + 1) 0) i) (parentCount frame i (at + 2) n)
+
+-- column i is a parent column as often as the lowest bit says
+unfoldable pub columnPairing : List ℕ → ℕ → ℕ → ℕ → ℕ
+columnPairing frame n i mask = cond (eqb (parentCount frame i 4 n) (mask % 2)) 0 6
+
+-- "The parent columns are exactly the parent's key, each once": column i and those after it, the lowest bit of the mask being that of i
+unfoldable pub pairing : List ℕ → ℕ → ℕ → ℕ → ℕ → ℕ
+pairing frame n i zero mask = 0
+pairing frame n i (suc left) mask = first (columnPairing frame n i mask) (pairing frame n (i + 1) left (mask / 2))
+
+-- ---- 05 union, 06 intersection
+
+-- the code says by a test which of the two
+abbrev pub setOperation : Bool → SetOperation
+setOperation true = SetOperation.union
+setOperation false = SetOperation.intersection
+
+-- the rules on a set view of two relations by their columns and row bounds: 6, then 8
+unfoldable pub setRules : SetOperation → ℕ → ℕ → ℕ → ℕ → ℕ
+setRules op v w a b = cond (eqb v w) (cond (leb (setBound op a b) 64) 0 8) 6
+
+-- ---- what the code promises
+
+pub record TableFault (frame : List ℕ) (r : ℕ) : Type 0 where
+  pub at : (d : Draft) → r ≡ bodyFault d tableFrame frame
+
+-- "bit i .. means column i": the key of each table says it of each column
+pub record KeysFit (d : Draft) : Type 0 where
+  pub fits : (i : ℕ) → i < length (d .tables) → length (getD (d .tables) i noTable .key) ≡ length (getD (d .tables) i noTable .columns)
+
+pub record KeyFault (frame shape : List ℕ) (tables r : ℕ) : Type 0 where
+  pub at : (d : Draft) (ends : List ℤ) → Catalogued d shape ends → KeysFit d → tables ≡ length (d .tables) → r ≡ bodyFault d (keyFrame d) frame
+
+pub record SetFault (frame shape : List ℕ) (tables count : ℕ) (op : SetOperation) (r : ℕ) : Type 0 where
+  pub at : (d : Draft) (ends : List ℤ) → Catalogued d shape ends → tables ≡ length (d .tables) → count ≡ relationCount d
+      → r ≡ bodyFault d (setFrame d op) frame
+
+pub record GoalFault (frame : List ℕ) (tables count r : ℕ) : Type 0 where
+  pub at : (d : Draft) → tables ≡ length (d .tables) → count ≡ relationCount d → r ≡ bodyFault d (goalFrame d) frame

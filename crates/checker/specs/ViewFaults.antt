@@ -1,0 +1,50 @@
+-- What the pass over the bytes of a basic or an aggregate view finds. Assumes nothing: these are definitions.
+use mathlib.Core.Path.{_≡_}
+use mathlib.Core.List.{List, [], _∷_, map}
+use Prim.Native.Nat.{ℕ, zero, suc, _+_}
+use lib.IntN.{ℤ}
+use lib.ListN.{getD}
+use Rattle.meaning.specs.Syntax.{Expr}
+use Rattle.language.specs.Reading.{Reader, _>>=_, byteIf, readE, readC}
+use Rattle.catalog.specs.Arrays.{widthAt}
+use Rattle.language.specs.Draft.{Draft, relationCount}
+use Rattle.language.specs.Frames.{times, field, ending, placeField, basicFrame, groupedFrame}
+use Rattle.checker.specs.Faults.{faultAt, under}
+use Rattle.checker.specs.Catalogued.{Catalogued}
+
+-- ---- the parts of the two frames, what they read aside
+
+-- the from count and the relations, each below `count`
+abbrev pub fromsUnder : ℕ → Reader (List ℕ)
+fromsUnder count = field 1 3 >>= λ n. times n (byteIf 6 (under count))
+
+-- m select expressions, and nothing behind them
+unfoldable pub selectEnd : List ℕ → ℕ → Reader (List Expr)
+selectEnd cols m = times m (readE cols) >>= λ es. ending es
+
+-- a condition before them: a basic view's where, an aggregate view's having
+unfoldable pub conditionSelect : List ℕ → ℕ → Reader (List Expr)
+conditionSelect cols m = readC cols >>= λ w. selectEnd cols m
+
+-- an aggregate view's where, its g grouping columns, and the rest
+unfoldable pub whereGroups : List ℕ → ℕ → ℕ → Reader (List Expr)
+whereGroups cols g m = readC cols >>= λ w. times g (placeField cols) >>= λ gs. conditionSelect cols m
+
+-- ---- the from items
+
+-- n bytes from a place on, 0 past the end
+unfoldable pub bytesAt : List ℕ → ℕ → ℕ → List ℕ
+bytesAt frame at zero = []
+bytesAt frame at (suc n) = getD frame at 0 ∷ bytesAt frame (at + 1) n
+
+-- the number of columns of each of the first n from items
+abbrev pub widthsAt : List ℕ → List ℕ → ℕ → List ℕ
+widthsAt frame shape n = map (widthAt shape) (bytesAt frame 2 n)
+
+-- ---- the answers: the first fault of a frame's bytes, whatever the relations before it are
+
+pub record BasicBytes (frame shape : List ℕ) (count r : ℕ) : Type 0 where
+  pub at : (d : Draft) (ends : List ℤ) → Catalogued d shape ends → count ≡ relationCount d → r ≡ faultAt frame 1 (basicFrame d)
+
+pub record GroupedBytes (frame shape : List ℕ) (count r : ℕ) : Type 0 where
+  pub at : (d : Draft) (ends : List ℤ) → Catalogued d shape ends → count ≡ relationCount d → r ≡ faultAt frame 1 (groupedFrame d)

@@ -1,0 +1,187 @@
+// What a frame without fault adds to the arrays, and the number of candidates.
+use catalog::arrays;
+use range::Range;
+use slice::byte_at;
+use value::domain::Domain;
+use value::integer;
+ghost use mathlib.Core.Path.{_≡_};
+ghost use mathlib.Core.Bool.{cond};
+ghost use Prim.Native.Nat.{_+_, _*_, _≤_, min};
+ghost use Rattle.value.specs.Machine.{columnOf};
+ghost use Rattle.meaning.specs.Bounds.{setBound};
+ghost use Rattle.catalog.specs.Arrays.{putShape, putRanges};
+ghost use Rattle.checker.specs.Entries.{columnFrom, columnIn, HullsPut, TableEntered, SetEntered};
+ghost use Rattle.checker.specs.Layout.{setOperation};
+ghost use Rattle.checker.specs.Packed.{tooMany, cappedProduct, columnsFrom, tableCells, cellsFrom, Counted};
+
+const TABLE: u8 = 1;
+
+const VIEW: u8 = 2;
+
+// The first number of candidates that is too large.
+pub const TOO_MANY: u64 = 16777217;
+
+// The column whose four bytes stand at a place.
+// Refused: lo twice; the high byte of lo twice.
+pub fn domain_at(bytes: &[u8], at: usize) -> Domain
+    requires { ⌜ at ≤ 4294970000 ⌝ }
+    ensures { λ d. ⌜ columnOf d ≡ columnFrom (now (bytes .entry)) at ⌝ }
+{
+    let lo = integer::from_bytes(byte_at(bytes, at), byte_at(bytes, at + 1));
+    let hi = integer::from_bytes(byte_at(bytes, at + 2), byte_at(bytes, at + 3));
+    Domain { lo: lo, hi: hi }
+}
+
+// Column c of a table's frame.
+fn column_in(frame: &[u8], c: u8) -> Range
+    ensures { λ x. ⌜ x ≡ columnIn (now (frame .entry)) c ⌝ }
+{
+    let column = domain_at(frame, 4 * (c as usize) + 4);
+    Range::column(column.lo, column.hi)
+}
+
+// The columns of a table's frame as relation r's.
+fn put_columns(frame: &[u8], ends: &mut [i32], r: u8, width: u8)
+    ensures { λ _. ⌜ now (ends .exit) ≡ putRanges (columnIn (now (frame .entry))) (now (ends .entry)) r width ⌝ }
+{
+    let mut c: u8 = 0;
+    while c < width {
+        arrays::put_range(ends, r, c, column_in(frame, c));
+        c += 1;
+    }
+}
+
+// The table of a frame without fault as relation r.
+// Refused: the number of columns as row bound; its ranges as relation 0's.
+pub fn enter_table(frame: &[u8], shape: &mut [u8], ends: &mut [i32], r: u8)
+    ensures { λ _. ⌜ TableEntered (now (frame .entry)) r (now (shape .entry)) (now (ends .entry)) (now (shape .exit)) (now (ends .exit)) ⌝ }
+{
+    let width = byte_at(frame, 2);
+    put_columns(frame, ends, r, width);
+    arrays::put_shape(shape, r, TABLE, width, byte_at(frame, 1), byte_at(frame, 3));
+}
+
+// A view as relation r, whose ranges are already stored.
+// Refused: a table; the number of columns as row bound.
+pub fn enter_view(shape: &mut [u8], r: u8, width: u8, bound: u8)
+    ensures { λ _. ⌜ now (shape .exit) ≡ putShape (now (shape .entry)) r 2 width bound 0 ⌝ }
+{
+    arrays::put_shape(shape, r, VIEW, width, bound, 0);
+}
+
+// The first columns of relation r: the hulls of left's and right's.
+fn put_hulls(shape: &[u8], ends: &mut [i32], left: u8, right: u8, r: u8, width: u8)
+    ensures { λ _. ⌜ HullsPut left right r width (now (shape .entry)) (now (ends .entry)) (now (ends .exit)) ⌝ }
+{
+    let mut c: u8 = 0;
+    while c < width {
+        let hull = arrays::range_at(shape, ends, left, c).hull(arrays::range_at(
+            shape,
+            ends,
+            right,
+            c,
+        ));
+        arrays::put_range(ends, r, c, hull);
+        c += 1;
+    }
+}
+
+fn least(a: u8, b: u8) -> u8
+    ensures { λ n. ⌜ n ≡ min a b ⌝ }
+{
+    if a <= b { a } else { b }
+}
+
+// The row bound of a union or an intersection, at most 255.
+// Refused: twice the left's for the sum; the left's for the smaller.
+pub fn set_bound(union: bool, a: u8, b: u8) -> u8
+    ensures { λ n. ⌜ n ≡ min (setBound (setOperation union) a b) 255 ⌝ }
+{
+    if union {
+        integer::sum_of(a, b)
+    } else {
+        least(a, b)
+    }
+}
+
+// Whose ranges join the left's in hulls: an intersection keeps the left's, and the hull of a range with itself is that range.
+fn joined_with(union: bool, left: u8, right: u8) -> u8
+    ensures { λ i. ⌜ i ≡ cond union right left ⌝ }
+{
+    if union { right } else { left }
+}
+
+// A set view as relation r: the columns of the narrower, for the fault of unequal widths is found elsewhere.
+// Refused: the left's row bound twice; hulls for an intersection.
+pub fn enter_set(union: bool, left: u8, right: u8, shape: &mut [u8], ends: &mut [i32], r: u8)
+    ensures { λ _. ⌜ SetEntered (setOperation union) left right r (now (shape .entry)) (now (ends .entry)) (now (shape .exit)) (now (ends .exit)) ⌝ }
+{
+    let other = joined_with(union, left, right);
+    let width = least(
+        arrays::width_of(shape, left),
+        arrays::width_of(shape, other),
+    );
+    let bound = set_bound(
+        union,
+        arrays::bound_of(shape, left),
+        arrays::bound_of(shape, right),
+    );
+    put_hulls(shape, ends, left, other, r, width);
+    enter_view(shape, r, width, bound);
+}
+
+// The product, or TOO_MANY where it is larger.
+fn capped(n: u64, m: u32) -> u64
+    requires { ⌜ n ≤ tooMany ⌝ }
+    ensures { λ p. ⌜ p ≡ min (n * m) tooMany ⌝ }
+{
+    let p = n * (m as u64);
+    if p <= TOO_MANY { p } else { TOO_MANY }
+}
+
+// n times the sizes of some columns.
+fn times_row(packed: &[u8], start: usize, columns: u8, n: u64) -> u64
+    requires { ⌜ (start ≤ 66000) × (n ≤ tooMany) ⌝ }
+    ensures { λ p. ⌜ (p ≡ cappedProduct n (columnsFrom (now (packed .entry)) start columns)) × (p ≤ tooMany) ⌝ }
+{
+    let mut p = n;
+    let mut at = start;
+    let mut left = columns;
+    while 0 < left {
+        p = capped(p, domain_at(packed, at).size());
+        at += 4;
+        left -= 1;
+    }
+    p
+}
+
+// n times the sizes of a table's cells.
+fn times_table(packed: &[u8], at: usize, n: u64) -> u64
+    requires { ⌜ (at ≤ 65280) × (n ≤ tooMany) ⌝ }
+    ensures { λ p. ⌜ (p ≡ cappedProduct n (tableCells (now (packed .entry)) at)) × (p ≤ tooMany) ⌝ }
+{
+    let columns = byte_at(packed, at + 3);
+    let mut left = byte_at(packed, at + 2);
+    let mut p = n;
+    while 0 < left {
+        p = times_row(packed, at + 5, columns, p);
+        left -= 1;
+    }
+    p
+}
+
+// The number of candidates of a file's tables, whose frames come first, each behind its length; 2^24 + 1 stands for any larger number.
+// Refused: 0 with no cells; a frame's length taken one too small.
+pub fn candidates_of(packed: &[u8], tables: u8) -> u64
+    ensures { λ n. ⌜ Counted (now (packed .entry)) tables n ⌝ }
+{
+    let mut p: u64 = 1;
+    let mut at: usize = 0;
+    let mut left = tables;
+    while 0 < left {
+        p = times_table(packed, at, p);
+        at += (byte_at(packed, at) as usize) + 1;
+        left -= 1;
+    }
+    p
+}

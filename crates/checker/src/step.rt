@@ -1,0 +1,151 @@
+// One frame: its fault, or what the counts and the arrays are with it.
+use super::entries;
+use super::fields;
+use super::fixed;
+use super::state;
+use super::state::State;
+use super::view_bytes;
+use super::view_rules;
+ghost use mathlib.Core.Path.{_≡_};
+ghost use Rattle.language.specs.Written.{setKind};
+ghost use Rattle.checker.specs.Layout.{setOperation};
+ghost use Rattle.checker.specs.Standing.{Turned, Stepped};
+
+pub struct Step {
+    pub fault: u8,
+    pub state: State,
+}
+
+fn table_step(frame: &[u8], shape: &mut [u8], ends: &mut [i32], s: State) -> Step
+    ensures { λ r. ⌜ Turned 1 (now (frame .entry)) s (now (shape .entry)) (now (ends .entry)) (now (shape .exit)) (now (ends .exit)) r ⌝ }
+{
+    let fault = fixed::table_fault(frame);
+    if fault != 0 {
+        return Step {
+            fault: fault,
+            state: s,
+        };
+    }
+    entries::enter_table(frame, shape, ends, s.relations);
+    Step {
+        fault: 0,
+        state: state::with_table(s),
+    }
+}
+
+fn key_step(frame: &[u8], shape: &[u8], ends: &[i32], s: State) -> Step
+    ensures { λ r. ⌜ Turned 2 (now (frame .entry)) s (now (shape .entry)) (now (ends .entry)) (now (shape .entry)) (now (ends .entry)) r ⌝ }
+{
+    let fault = fixed::key_fault(frame, shape, s.tables);
+    if fault != 0 {
+        return Step {
+            fault: fault,
+            state: s,
+        };
+    }
+    Step {
+        fault: 0,
+        state: state::with_key(s),
+    }
+}
+
+fn basic_step(frame: &[u8], shape: &mut [u8], ends: &mut [i32], s: State) -> Step
+    ensures { λ r. ⌜ Turned 3 (now (frame .entry)) s (now (shape .entry)) (now (ends .entry)) (now (shape .exit)) (now (ends .exit)) r ⌝ }
+{
+    let fault = view_bytes::basic_bytes(frame, shape, s.relations);
+    if fault != 0 {
+        return Step {
+            fault: fault,
+            state: s,
+        };
+    }
+    let ruled = view_rules::basic_rules(frame, shape, ends, s.relations);
+    entries::enter_view(shape, s.relations, ruled.width, ruled.bound);
+    Step {
+        fault: ruled.fault,
+        state: state::with_view(s),
+    }
+}
+
+fn grouped_step(frame: &[u8], shape: &mut [u8], ends: &mut [i32], s: State) -> Step
+    ensures { λ r. ⌜ Turned 4 (now (frame .entry)) s (now (shape .entry)) (now (ends .entry)) (now (shape .exit)) (now (ends .exit)) r ⌝ }
+{
+    let fault = view_bytes::grouped_bytes(frame, shape, s.relations);
+    if fault != 0 {
+        return Step {
+            fault: fault,
+            state: s,
+        };
+    }
+    let ruled = view_rules::grouped_rules(frame, shape, ends, s.relations);
+    entries::enter_view(shape, s.relations, ruled.width, ruled.bound);
+    Step {
+        fault: ruled.fault,
+        state: state::with_view(s),
+    }
+}
+
+fn set_step(union: bool, frame: &[u8], shape: &mut [u8], ends: &mut [i32], s: State) -> Step
+    ensures { λ r. ⌜ Turned (setKind (setOperation union)) (now (frame .entry)) s (now (shape .entry)) (now (ends .entry)) (now (shape .exit)) (now (ends .exit)) r ⌝ }
+{
+    let fault = fixed::set_fault(frame, shape, s.tables, s.relations, union);
+    if fault != 0 {
+        return Step {
+            fault: fault,
+            state: s,
+        };
+    }
+    let left = slice::byte_at(frame, 1);
+    let right = slice::byte_at(frame, 2);
+    entries::enter_set(union, left, right, shape, ends, s.relations);
+    Step {
+        fault: 0,
+        state: state::with_view(s),
+    }
+}
+
+fn goal_step(frame: &[u8], shape: &[u8], ends: &[i32], s: State) -> Step
+    ensures { λ r. ⌜ Turned 7 (now (frame .entry)) s (now (shape .entry)) (now (ends .entry)) (now (shape .entry)) (now (ends .entry)) r ⌝ }
+{
+    let fault = fixed::goal_fault(frame, s.tables, s.relations);
+    let view = slice::byte_at(frame, 1);
+    let sign = slice::byte_at(frame, 2);
+    Step {
+        fault: fault,
+        state: state::with_goal(s, view, sign),
+    }
+}
+
+// The frame of a kind whose turn has come.
+fn body_step(kind: u8, frame: &[u8], shape: &mut [u8], ends: &mut [i32], s: State) -> Step
+    ensures { λ r. ⌜ Turned kind (now (frame .entry)) s (now (shape .entry)) (now (ends .entry)) (now (shape .exit)) (now (ends .exit)) r ⌝ }
+{
+    match kind {
+        1 => table_step(frame, shape, ends, s),
+        2 => key_step(frame, shape, ends, s),
+        3 => basic_step(frame, shape, ends, s),
+        4 => grouped_step(frame, shape, ends, s),
+        5 => set_step(true, frame, shape, ends, s),
+        6 => set_step(false, frame, shape, ends, s),
+        _ => goal_step(frame, shape, ends, s),
+    }
+}
+
+// One frame: its fault, or the state and the arrays with what it adds.
+// Refused: 3 for a frame without bytes; every frame as a table's.
+pub fn frame_step(frame: &[u8], shape: &mut [u8], ends: &mut [i32], s: State) -> Step
+    ensures { λ r. ⌜ Stepped (now (frame .entry)) s (now (shape .entry)) (now (ends .entry)) (now (shape .exit)) (now (ends .exit)) r ⌝ }
+{
+    if frame.len() == 0 {
+        return Step { fault: 4, state: s };
+    }
+    let kind = frame[0];
+    let turn = state::turn_fault(s, kind);
+    if turn != 0 {
+        return Step {
+            fault: turn,
+            state: s,
+        };
+    }
+    body_step(kind, frame, shape, ends, s)
+}

@@ -1,0 +1,211 @@
+// The rules on the whole frame of a basic or an aggregate view, 7, 8 and 9, and the ranges of its columns.
+use super::fields;
+use bounds;
+use bounds::Rule;
+use bounds::Tested;
+use catalog::arrays;
+use range::Ranged;
+ghost use mathlib.Core.Path.{_≡_};
+ghost use mathlib.Core.Bool.{false, _&&_};
+ghost use Prim.Native.Nat.{_≤_};
+ghost use lib.ListN.{length, drop};
+ghost use Rattle.bounds.specs.Walk.{isWithin};
+ghost use Rattle.language.specs.Frames.{basicFrame, groupedFrame};
+ghost use Rattle.checker.specs.ViewRules.{putRanged, factorAt, viewFault, Product, Selects, Tail, Rules};
+
+// The fault of a view's frame that its bytes leave open, 0 for none; its row bound and its number of columns.
+pub struct Ruled {
+    pub fault: u8,
+    pub bound: u8,
+    pub width: u8,
+}
+
+// Of the select expressions: whether the rule on 07 is kept, and whether every range inside them fits 32 bits.
+struct Selected {
+    allowed: bool,
+    within: bool,
+}
+
+// The row bound of from item i, 1 past the last.
+fn factor(items: &[u8], shape: &[u8], i: usize) -> u8
+    ensures { λ f. ⌜ f ≡ factorAt (now (shape .entry)) (now (items .entry)) i ⌝ }
+{
+    if i < items.len() {
+        return arrays::bound_of(shape, items[i]);
+    }
+    1
+}
+
+// The product of the row bounds of up to 3 from items.
+fn product_bound(items: &[u8], shape: &[u8]) -> u32
+    ensures { λ p. ⌜ Product (now (shape .entry)) (now (items .entry)) p ⌝ }
+{
+    let a = factor(items, shape, 0) as u32;
+    let b = factor(items, shape, 1) as u32;
+    let c = factor(items, shape, 2) as u32;
+    a * b * c
+}
+
+// Column c of relation r, if its range fits; and whether it does.
+fn store(ends: &mut [i32], r: u8, c: u8, x: Ranged) -> bool
+    ensures { λ b. ⌜ (b ≡ isWithin x) × (now (ends .exit) ≡ putRanged (now (ends .entry)) r c x) ⌝ }
+{
+    match x {
+        Ranged::Within(range) => {
+            arrays::put_range(ends, r, c, range);
+            true
+        }
+        Ranged::Beyond => false,
+    }
+}
+
+// `count` select expressions from `start` on, as the columns of relation r.
+fn selects(
+    frame: &[u8],
+    start: usize,
+    count: u8,
+    items: &[u8],
+    shape: &[u8],
+    ends: &mut [i32],
+    r: u8,
+    rule: Rule,
+) -> Selected
+    ensures { λ s. ⌜ Selects (now (frame .entry)) start count (now (items .entry)) (now (shape .entry)) (now (ends .entry)) r rule (now (ends .exit)) (s .allowed) (s .within) ⌝ }
+{
+    let mut at = start;
+    let mut allowed = true;
+    let mut within = true;
+    let mut c: u8 = 0;
+    while c < count {
+        let e = bounds::expression(frame, at, items, shape, ends, rule);
+        let range = e.range;
+        let fits = store(ends, r, c, range);
+        allowed = allowed & e.allowed;
+        within = within & fits;
+        at = e.next;
+        c += 1;
+    }
+    Selected {
+        allowed: allowed,
+        within: within,
+    }
+}
+
+// The first rule that is broken.
+fn rules_fault(allowed: bool, bound: u32, within: bool) -> u8
+    ensures { λ n. ⌜ n ≡ viewFault allowed bound within ⌝ }
+{
+    if allowed {
+        if bound <= 64 {
+            if within {
+                return 0;
+            }
+            return 9;
+        }
+        return 8;
+    }
+    7
+}
+
+// The answer for a view whose conditions are `head`, which the select expressions follow.
+fn tail(
+    frame: &[u8],
+    head: Tested,
+    count: u8,
+    items: &[u8],
+    shape: &[u8],
+    ends: &mut [i32],
+    r: u8,
+    rule: Rule,
+) -> Ruled
+    ensures { λ a. ⌜ Tail (now (frame .entry)) head count (now (items .entry)) (now (shape .entry)) (now (ends .entry)) r rule (now (ends .exit)) a ⌝ }
+{
+    let s = selects(frame, head.next, count, items, shape, ends, r, rule);
+    let allowed = head.allowed & s.allowed;
+    let within = head.within & s.within;
+    Ruled {
+        fault: rules_fault(allowed, rule.bound, within),
+        bound: (rule.bound % 256) as u8,
+        width: count,
+    }
+}
+
+// The rule of a basic view, and of the where of any view.
+fn plain(bound: u32) -> Rule
+    ensures { λ u. ⌜ u ≡ record { bound = bound; grouped = false; places = 0; count = 0 } ⌝ }
+{
+    Rule {
+        bound: bound,
+        grouped: false,
+        places: 0,
+        count: 0,
+    }
+}
+
+// A place in the frame or at its end.
+fn inside(frame: &[u8], at: usize) -> usize
+    ensures { λ p. ⌜ (p ≤ length (now (frame .entry))) × (drop p (now (frame .entry)) ≡ drop at (now (frame .entry))) ⌝ }
+{
+    if at <= frame.len() { at } else { frame.len() }
+}
+
+// Both conditions of an aggregate view.
+fn both(w: Tested, h: Tested) -> Tested
+    ensures { λ t. ⌜ t ≡ record { next = h .next; allowed = w .allowed && h .allowed; within = w .within && h .within } ⌝ }
+{
+    Tested {
+        next: h.next,
+        allowed: w.allowed & h.allowed,
+        within: w.within & h.within,
+    }
+}
+
+// The answer for a frame that ends in its from list: its bytes are refused, and any will do.
+fn none() -> Ruled {
+    Ruled {
+        fault: 0,
+        bound: 0,
+        width: 0,
+    }
+}
+
+// The rules on the whole frame of a basic view, 7, 8 and 9, and the ranges of its columns.
+// Refused: the from count as the number of columns; its ranges as relation 0's.
+pub fn basic_rules(frame: &[u8], shape: &[u8], ends: &mut [i32], r: u8) -> Ruled
+    ensures { λ a. ⌜ Rules basicFrame (now (frame .entry)) r (now (shape .entry)) (now (ends .entry)) (now (ends .exit)) a ⌝ }
+{
+    let end = (slice::byte_at(frame, 1) as usize) + 2;
+    if frame.len() < end {
+        return none();
+    }
+    let items = &frame[2..end];
+    let rule = plain(product_bound(items, shape));
+    let w = bounds::condition(frame, end + 1, items, shape, ends, rule);
+    let n = slice::byte_at(frame, end);
+    tail(frame, w, n, items, shape, ends, r, rule)
+}
+
+// The same of an aggregate view.
+// Refused: the where left out; the first bytes behind the from list as grouping columns.
+pub fn grouped_rules(frame: &[u8], shape: &[u8], ends: &mut [i32], r: u8) -> Ruled
+    ensures { λ a. ⌜ Rules groupedFrame (now (frame .entry)) r (now (shape .entry)) (now (ends .entry)) (now (ends .exit)) a ⌝ }
+{
+    let end = (slice::byte_at(frame, 1) as usize) + 2;
+    if frame.len() < end {
+        return none();
+    }
+    let items = &frame[2..end];
+    let bound = product_bound(items, shape);
+    let w = bounds::condition(frame, end + 2, items, shape, ends, plain(bound));
+    let g = slice::byte_at(frame, end);
+    let places = inside(frame, w.next);
+    let rule = Rule {
+        bound: bound,
+        grouped: true,
+        places: places,
+        count: g,
+    };
+    let h = bounds::condition(frame, places + 2 * (g as usize), items, shape, ends, rule);
+    let n = slice::byte_at(frame, end + 1);
+    tail(frame, both(w, h), n, items, shape, ends, r, rule)
+}
