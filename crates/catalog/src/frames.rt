@@ -33,7 +33,7 @@ fn part(bytes: &[u8], at: usize, n: u8) -> &[u8]
 }
 
 // The frame whose length stands at a place; where the bytes end early, what there is of it.
-// Refused: the length with it; one byte less.
+// Refused: the length with it; the first frame's length for each.
 pub fn frame_at(bytes: &[u8], at: usize) -> &[u8]
     ensures { λ r. ⌜ now r ≡ frameAt (now (bytes .entry)) at ⌝ }
 {
@@ -54,7 +54,7 @@ fn start_of(starts: &[u32], r: u8) -> usize
 }
 
 // The frame of a relation.
-// Refused: the first relation's; the place of its length one too far.
+// Refused: the first relation's; its number as its place.
 pub fn frame_of<'a>(bytes: &'a [u8], starts: &[u32], r: u8) -> &'a [u8]
     ensures { λ f. ⌜ now f ≡ frameIn (now (bytes .entry)) (now (starts .entry)) r ⌝ }
 {
@@ -62,7 +62,7 @@ pub fn frame_of<'a>(bytes: &'a [u8], starts: &[u32], r: u8) -> &'a [u8]
 }
 
 // The relations that a view's frame names.
-// Refused: the from list's length with it; the first operand alone.
+// Refused: the first operand alone; the from list's length with it.
 pub fn names(frame: &[u8]) -> &[u8]
     ensures { λ r. ⌜ now r ≡ namesIn (now (frame .entry)) ⌝ }
 {
@@ -73,7 +73,7 @@ pub fn names(frame: &[u8]) -> &[u8]
 }
 
 // The parts of a basic or an aggregate view's frame.
-// Refused: a grouping count of basic views; the where condition one byte too far.
+// Refused: a grouping column in basic views; their where condition one byte too far.
 pub fn parts_of(frame: &[u8]) -> Parts
     ensures { λ r. ⌜ r ≡ partsIn (now (frame .entry)) ⌝ }
 {
