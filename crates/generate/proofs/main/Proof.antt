@@ -3,24 +3,24 @@ use mathlib.Core.Path.{sym}
 use mathlib.Core.Logic.{inl, inr}
 use borrow.Author.Needs.{needs}
 use lib.Seq.{length-take-le}
-use Rattle.generate.proofs.InputLaws.{read-within}
+use Rattle.input.proofs.InputLaws.{read-within}
 use Rattle.generate.proofs.main.Statement.{statement}
 use Rattle.generate.proofs.main.Tie as tie
 
-slice-aggregate-read-input : tie.Need-slice-aggregate-read-input
-slice-aggregate-read-input c = search needs
+slice-aggregate-read-text : tie.Need-slice-aggregate-read-text
+slice-aggregate-read-text c = search needs
 
-read-input-requires : tie.Need-read-input-requires
-read-input-requires c κs = search needs
+read-text-requires : tie.Need-read-text-requires
+read-text-requires c κs = search needs
 
 enum-known-input : tie.Need-enum-known-input
 enum-known-input c = search needs
 
 array-share-prefix-text : tie.Need-array-share-prefix-text
-array-share-prefix-text c = read-within _ (c .before .before .before .before .read-input .ensures) (inl (c .before .input .given .1))
+array-share-prefix-text c = read-within _ (c .before .before .before .before .read-text .ensures) (inl (c .before .input .given .1))
 
 slice-aggregate-print-output : tie.Need-slice-aggregate-print-output
-slice-aggregate-print-output c = sym (length-take-le _ _ (read-within _ (c .before .before .before .before .before .read-input .ensures) (inl (c .before .before .input .given .1))))
+slice-aggregate-print-output c = sym (length-take-le _ _ (read-within _ (c .before .before .before .before .before .read-text .ensures) (inl (c .before .before .input .given .1))))
 
 print-output-requires : tie.Need-print-output-requires
 print-output-requires c κs = search needs
@@ -29,10 +29,10 @@ enum-known-input-2 : tie.Need-enum-known-input-2
 enum-known-input-2 c = search needs
 
 array-share-prefix-text-2 : tie.Need-array-share-prefix-text-2
-array-share-prefix-text-2 c = read-within _ (c .before .before .before .before .read-input .ensures) (inr (c .before .input2 .given .1))
+array-share-prefix-text-2 c = read-within _ (c .before .before .before .before .read-text .ensures) (inr (c .before .input2 .given .1))
 
 slice-aggregate-print-output-2 : tie.Need-slice-aggregate-print-output-2
-slice-aggregate-print-output-2 c = sym (length-take-le _ _ (read-within _ (c .before .before .before .before .before .read-input .ensures) (inr (c .before .before .input2 .given .1))))
+slice-aggregate-print-output-2 c = sym (length-take-le _ _ (read-within _ (c .before .before .before .before .before .read-text .ensures) (inr (c .before .before .input2 .given .1))))
 
 print-output-requires-2 : tie.Need-print-output-requires-2
 print-output-requires-2 c κs = search needs
@@ -56,8 +56,8 @@ pub main-spec : {M : Type 1} → statement M
 main-spec =
     tie.close
     (tie.spec
-    slice-aggregate-read-input
-    read-input-requires
+    slice-aggregate-read-text
+    read-text-requires
     enum-known-input
     array-share-prefix-text
     slice-aggregate-print-output

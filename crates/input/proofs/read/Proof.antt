@@ -1,12 +1,12 @@
--- `generate::read_input` meets its contract. Assumes nothing.
+-- `input::read` meets its contract. Assumes nothing.
 use mathlib.Core.Path.{_≡_, _∙_}
 use Prim.Native.Nat.{_-_, _≤_}
 use native.Mathlib.Omega.{arith}
 use borrow.Author.Needs.{needs}
 use lib.ListN.{length}
-use Rattle.generate.proofs.InputLaws.{read-on, read-ended, neither, same-room}
-use Rattle.generate.proofs.read_input.Statement.{statement}
-use Rattle.generate.proofs.read_input.Tie as tie
+use Rattle.input.proofs.InputLaws.{read-on, read-ended, neither, same-room}
+use Rattle.input.proofs.read.Statement.{statement}
+use Rattle.input.proofs.read.Tie as tie
 
 abbrev Inv-loop : tie.InvT-loop
 Inv-loop text₀ done₀ text done = (done ≤ length text) × (length text ≡ length text₀)
@@ -62,8 +62,8 @@ same-length-2 c = search needs
 returns-2 : tie.Need-returns-2 Inv-loop μ-loop
 returns-2 c = search needs
 
-pub read-input-spec : {M : Type 1} → statement M
-read-input-spec =
+pub read-spec : {M : Type 1} → statement M
+read-spec =
     tie.close
     (tie.spec
     Inv-loop

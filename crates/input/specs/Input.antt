@@ -3,8 +3,8 @@
 use mathlib.Core.Path.{_≡_}
 use Prim.Native.Nat.{ℕ, zero, suc, _+_, _<_, min}
 use lib.IntN.{ℤ, pos, negsuc}
-use Rattle.generate.specs.declared.Input.{Input}
-use Rattle.generate.specs.declared.Input.the-variants.{More, End, Failed}
+use Rattle.input.specs.declared.Input.{Input}
+use Rattle.input.specs.declared.Input.the-variants.{More, End, Failed}
 
 -- what a read answers that came behind `done` bytes in a buffer of `room`: a negative number is a failure and no end, 0 is the end, and
 -- any other is so many bytes more, never beyond the buffer

@@ -13,9 +13,9 @@ use lib.Signed.{ltZ, nonNeg}
 use mir.Syntax.{w64}
 use mir.Val.{Fits, SFits}
 use Rattle.value.proofs.Linear.{ints, lt-taken}
-use Rattle.generate.specs.Input.{inputOf, Reads}
-use Rattle.generate.specs.declared.Input.{Input}
-use Rattle.generate.specs.declared.Input.the-variants.{More, End, Failed}
+use Rattle.input.specs.Input.{inputOf, Reads}
+use Rattle.input.specs.declared.Input.{Input}
+use Rattle.input.specs.declared.Input.the-variants.{More, End, Failed}
 
 -- ---- one read
 

@@ -1,9 +1,9 @@
--- `generate::next` meets its contract. Assumes nothing.
+-- `input::next` meets its contract. Assumes nothing.
 use borrow.Author.Needs.{needs}
 use mir.Facts.{toZ-ofZ}
-use Rattle.generate.proofs.InputLaws.{count-fits, next-failed, next-end, next-more}
-use Rattle.generate.proofs.next.Statement.{statement}
-use Rattle.generate.proofs.next.Tie as tie
+use Rattle.input.proofs.InputLaws.{count-fits, next-failed, next-end, next-more}
+use Rattle.input.proofs.next.Statement.{statement}
+use Rattle.input.proofs.next.Tie as tie
 
 returns : tie.Need-returns
 returns c = next-failed (toZ-ofZ (c .before .fits .got)) _ _ (search needs)
