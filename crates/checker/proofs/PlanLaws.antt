@@ -33,7 +33,7 @@ use Rattle.language.specs.FileOf.{outcomeOf, fileOf}
 use Rattle.language.specs.Legal.{LegalColumn, LegalTable}
 use Rattle.language.specs.Written.{tableBytes, keyBytes, viewBytes, goalBytes, fileFrames}
 use Rattle.checker.specs.Packed.{tooMany, packedTables, Bits16, Counted}
-use Rattle.checker.specs.Standing.{Held, startState}
+use Rattle.checker.specs.Standing.{DraftIn, startProgress}
 use Rattle.checker.specs.Plans.{WalkedTo, Walks, frameOf, Starts, Plans}
 use Rattle.checker.specs.declared.plan.Plan.{Plan}
 use Rattle.checker.specs.declared.plan.Walked.{Walked}
@@ -42,7 +42,7 @@ use Rattle.catalog.proofs.ArrayLaws.{length-ranges}
 use Rattle.checker.proofs.EntryLaws.{none-entered}
 use Rattle.checker.proofs.FitLaws.{fits-empty}
 use Rattle.language.proofs.SoundFrames.{regroup}
-use Rattle.checker.proofs.StandingLaws.{stands-empty}
+use Rattle.checker.proofs.StandingLaws.{counts-empty}
 use Rattle.language.proofs.Turns.{draft, stage-views}
 use Rattle.checker.proofs.WalkLaws.{starts-back}
 
@@ -129,17 +129,17 @@ module _ (text : List ℕ) (r : Frames) (fs : List (List ℕ)) (e : framesOf tex
       go (Reached.came d) q = absurd (nz (q .0))
 
   module _ (z : w .number ≡ 0) where
-    came-to : (d : Draft) × (reach fs empty 1 ≡ Reached.came d) × Held d (w .state) shape ends
+    came-to : (d : Draft) × (reach fs empty 1 ≡ Reached.came d) × DraftIn d (w .state) shape ends
     came-to = go (reach fs empty 1) refl t
       where
-        go : (x : Reached) → reach fs empty 1 ≡ x → WalkedTo x w shape ends → (d : Draft) × (reach fs empty 1 ≡ Reached.came d) × Held d (w .state) shape ends
+        go : (x : Reached) → reach fs empty 1 ≡ x → WalkedTo x w shape ends → (d : Draft) × (reach fs empty 1 ≡ Reached.came d) × DraftIn d (w .state) shape ends
         go (Reached.stopped n l) q y = absurd (y .2 (sym (y .0) ∙ z))
         go (Reached.came d) q y = (d, q, y .1)
 
     pub plan-without-goal : (p : Plan) → (w .state .stage ≡ 5 → ⊥) → p .number ≡ 3 → p .line ≡ 0 → Plans (fileOf text) p
     plan-without-goal p nz a b =
         let (d, q, held) = came-to in
-        let g : d .goal ≡ none = goal-none (d .tables) (d .keys) (d .views) (d .goal) (λ x. nz (held .stands .stage-is ∙ x)) in
+        let g : d .goal ≡ none = goal-none (d .tables) (d .keys) (d .views) (d .goal) (λ x. nz (held .counts .stage-is ∙ x)) in
         let o : fileOf text ≡ Outcome.refused 3 0 = outcome ∙ ap concluded q ∙ ap (finished d) g in
         rw o (a, b, λ x. omega arith)
 
@@ -149,7 +149,7 @@ module _ (text : List ℕ) (r : Frames) (fs : List (List ℕ)) (e : framesOf tex
       goal-is : Goal
       named : draft-is .goal ≡ some goal-is
       concluded-is : fileOf text ≡ finished draft-is (draft-is .goal)
-      held : Held draft-is (w .state) shape ends
+      held : DraftIn draft-is (w .state) shape ends
       relations-few : relationCount draft-is ≤ 16
       frames-are : fs ≡ fileFrames (fileAt draft-is goal-is)
       number-is : n ≡ min (candidates (fileAt draft-is goal-is)) tooMany
@@ -158,7 +158,7 @@ module _ (text : List ℕ) (r : Frames) (fs : List (List ℕ)) (e : framesOf tex
     unfolding candidates
     ready n five c =
         let (d, q, held) = came-to in
-        let (g, named) = goal-some (d .tables) (d .keys) (d .views) (d .goal) (sym (held .stands .stage-is) ∙ five) in
+        let (g, named) = goal-some (d .tables) (d .keys) (d .views) (d .goal) (sym (held .counts .stage-is) ∙ five) in
         let (_, good) = only-such text fs e in
         let bytes : All (All Byte) fs = all-map (λ f x. x .bytes) good in
         let wr : Drafted d fs = drafted fs d bytes q in
@@ -175,7 +175,7 @@ module _ (text : List ℕ) (r : Frames) (fs : List (List ℕ)) (e : framesOf tex
           held = held;
           relations-few = wr .legal .relations;
           frames-are = frames;
-          number-is = c .counted (d .tables) (pack others) packed (held .stands .tables) (tables-bits (wr .legal .tables));
+          number-is = c .counted (d .tables) (pack others) packed (held .counts .tables) (tables-bits (wr .legal .tables));
         }
 
     starts-in : {n : ℕ} (k : Ready n) (starts : List ℕ) → Starts (take (r .used) (r .bytes)) (w .state .tables) (w .state .keys) 16 starts
@@ -184,7 +184,7 @@ module _ (text : List ℕ) (r : Frames) (fs : List (List ℕ)) (e : framesOf tex
         drop (getD starts i 0) (pack (fileFrames F)) ≡ pack (drop (frameOf (w .state .tables) (w .state .keys) i) (fileFrames F))
     starts-in k starts begin i l =
         let F = fileAt (k .draft-is) (k .goal-is) in
-        let s = k .held .stands in
+        let s = k .held .counts in
         let few : i < 16 = omega (arith, s .relations, k .relations-few) in
         let there : frameOf (w .state .tables) (w .state .keys) i ≤ length (fileFrames F) =
         frame-inside F (w .state .tables) (w .state .keys) i (s .tables) (s .keys) (omega (arith, s .relations)) in
@@ -209,7 +209,7 @@ module _ (text : List ℕ) (r : Frames) (fs : List (List ℕ)) (e : framesOf tex
         let N = candidates (fileAt d g) in
         let below : N ≤ candidateLimit = omega (arith, k .number-is, small) in
         let o : fileOf text ≡ Outcome.accepted (fileAt d g) = k .concluded-is ∙ finished-some d g (k .named) true (le-leb N candidateLimit below) in
-        let goal = k .held .stands .goal g (k .named) in
+        let goal = k .held .counts .goal g (k .named) in
         let known = k .held .catalogued in
         rw o (record {
           number = refl;
@@ -217,9 +217,9 @@ module _ (text : List ℕ) (r : Frames) (fs : List (List ℕ)) (e : framesOf tex
           room = h .wide;
           used = h .used ∙ ap (λ x. length (pack x)) (k .frames-are);
           packed = h .packed ∙ ap pack (k .frames-are);
-          tables = k .held .stands .tables;
-          keys = k .held .stands .keys;
-          relations = k .held .stands .relations;
+          tables = k .held .counts .tables;
+          keys = k .held .counts .keys;
+          relations = k .held .counts .relations;
           starts = λ i l. starts-in k starts begin i l;
           shape-size = known .shape-size;
           widths = λ i. sym (length-ranges ends (16 * i) (widthAt shape i)) ∙ ap (λ (s : Schema). length (s .ranges)) (known .schemas i);
@@ -233,8 +233,8 @@ module _ (text : List ℕ) (r : Frames) (fs : List (List ℕ)) (e : framesOf tex
 -- ---- in the code's words
 
 -- nothing is known before the first frame
-pub held-start : Held empty startState (replicate 64 0) (replicate 256 (pos 0))
-held-start = record { stands = stands-empty; catalogued = none-entered (replicate 64 0) (replicate 256 (pos 0)) refl refl (λ k. getD-all 64 k 0); fits = fits-empty }
+pub held-start : DraftIn empty startProgress (replicate 64 0) (replicate 256 (pos 0))
+held-start = record { counts = counts-empty; catalogued = none-entered (replicate 64 0) (replicate 256 (pos 0)) refl refl (λ k. getD-all 64 k 0); fits = fits-empty }
 
 module _ (text : List ℕ) (r : Frames) (dec : Decoded (framesOf text) r) where
   pub used-inside : r .number ≡ 0 → r .used ≤ length (r .bytes)

@@ -17,9 +17,9 @@ use Rattle.text.specs.Answers.{pack}
 use Rattle.language.specs.Draft.{Draft, empty}
 use Rattle.language.specs.Check.{Checked, checkFrame, Reached, onward, reach}
 use Rattle.checker.specs.Catalogued.{checkedFault}
-use Rattle.checker.specs.Standing.{Held, Stepped, startState}
+use Rattle.checker.specs.Standing.{DraftIn, Stepped, startProgress}
 use Rattle.checker.specs.Plans.{WalkedTo, startFrom, frameOf, Starts}
-use Rattle.checker.specs.declared.state.State.{State}
+use Rattle.checker.specs.declared.state.Progress.{Progress}
 use Rattle.checker.specs.declared.step.Step.{Step}
 use Rattle.language.proofs.Steps.{Looked, looked}
 
@@ -64,12 +64,12 @@ module _ {packed : List ℕ} {at : ℕ} {rest : List (List ℕ)} (h : Head packe
 
 -- ---- one turn of the walk
 
-pub record Left (packed : List ℕ) (s : State) (shape : List ℕ) (ends : List ℤ) (at line : ℕ) (fs : List (List ℕ)) : Type 0 where
+pub record Left (packed : List ℕ) (s : Progress) (shape : List ℕ) (ends : List ℤ) (at line : ℕ) (fs : List (List ℕ)) : Type 0 where
   pub rest : List (List ℕ)
   pub draft : Draft
   pub bytes : drop at packed ≡ pack rest
   pub same : reach fs empty 1 ≡ reach rest draft (suc line)
-  pub held : Held draft s shape ends
+  pub held : DraftIn draft s shape ends
 
 -- a draft with no fault goes on
 next-of : {d : Draft} {f : List ℕ} {c : Checked} → Looked d f c → checkedFault c ≡ 0 → (e : Draft) × (c ≡ Checked.next e)
@@ -80,7 +80,7 @@ fault-of : (c : Checked) {n : ℕ} → n ≡ checkedFault c → (n ≡ 0 → ⊥
 fault-of (Checked.fault m) e z = ap Checked.fault (sym e)
 fault-of (Checked.next d) e z = absurd (z e)
 
-module _ (packed : List ℕ) (s : State) (shape : List ℕ) (ends : List ℤ) (at line : ℕ) (fs : List (List ℕ)) (h : Left packed s shape ends at line fs) where
+module _ (packed : List ℕ) (s : Progress) (shape : List ℕ) (ends : List ℤ) (at line : ℕ) (fs : List (List ℕ)) (h : Left packed s shape ends at line fs) where
   front : at < length packed → Head packed at (h .rest)
   front k = head-of packed at (h .rest) k (h .bytes)
 
@@ -93,7 +93,7 @@ module _ (packed : List ℕ) (s : State) (shape : List ℕ) (ends : List ℤ) (a
       ∙ ap (λ f. onward (λ e. reach (front k .others) e (suc (suc line))) (suc line) (checkFrame (h .draft) f)) (sym (head-frame (front k)))
 
   module _ (k : at < length packed) (shape′ : List ℕ) (ends′ : List ℤ) (r : Step) (t : Stepped (frameAt packed at) s shape ends shape′ ends′ r) where
-    pub walk-stops : (r .fault ≡ 0 → ⊥) → (s′ : State) → WalkedTo (reach fs empty 1) (record { number = r .fault; line = line + 1; state = s′ }) shape′ ends′
+    pub walk-stops : (r .fault ≡ 0 → ⊥) → (s′ : Progress) → WalkedTo (reach fs empty 1) (record { number = r .fault; line = line + 1; state = s′ }) shape′ ends′
     walk-stops nz s′ =
         let c : checkFrame (h .draft) (frameAt packed at) ≡ Checked.fault (r .fault) = fault-of (checkFrame (h .draft) (frameAt packed at)) (t .fault (h .draft) (h .held)) nz in
         let e : reach fs empty 1 ≡ Reached.stopped (r .fault) (suc line) = first-step k ∙ ap (onward (λ e. reach (front k .others) e (suc (suc line))) (suc line)) c in
@@ -126,10 +126,10 @@ module _ (packed : List ℕ) (s : State) (shape : List ℕ) (ends : List ℤ) (a
       let e : reach fs empty 1 ≡ Reached.came (h .draft) = h .same ∙ ap (λ r. reach r (h .draft) (suc line)) (over k) in
       rw e (refl, h .held)
 
-pub walk-begins : (packed shape : List ℕ) (ends : List ℤ) (s : State) → s ≡ startState → (fs : List (List ℕ)) → packed ≡ pack fs → Held empty startState shape ends
+pub walk-begins : (packed shape : List ℕ) (ends : List ℤ) (s : Progress) → s ≡ startProgress → (fs : List (List ℕ)) → packed ≡ pack fs → DraftIn empty startProgress shape ends
     → Left packed s shape ends 0 0 fs
 walk-begins packed shape ends s e fs p h =
-    record { rest = fs; draft = empty; bytes = p; same = refl; held = subst (λ (x : State). Held empty x shape ends) (sym e) h }
+    record { rest = fs; draft = empty; bytes = p; same = refl; held = subst (λ (x : Progress). DraftIn empty x shape ends) (sym e) h }
 
 -- ---- where frames begin
 

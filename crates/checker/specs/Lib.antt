@@ -1,7 +1,7 @@
 -- What the checker's numbers and arrays stand for, and what its functions give.
 pub mod Faults
 pub mod Catalogued
-pub mod Layout
+pub mod FixedFaults
 pub mod Entries
 pub mod Packed
 pub mod ViewFaults

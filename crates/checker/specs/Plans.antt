@@ -15,7 +15,7 @@ use Rattle.language.specs.Draft.{empty}
 use Rattle.language.specs.Check.{Outcome, Reached, reach}
 use Rattle.language.specs.Legal.{tableAt}
 use Rattle.language.specs.Written.{maskOf, fileFrames}
-use Rattle.checker.specs.Standing.{Held, startState}
+use Rattle.checker.specs.Standing.{DraftIn, startProgress}
 use Rattle.checker.specs.declared.plan.Plan.{Plan}
 use Rattle.checker.specs.declared.plan.Walked.{Walked}
 
@@ -24,10 +24,10 @@ use Rattle.checker.specs.declared.plan.Walked.{Walked}
 -- what the walk over the frames answers: a refusal with its line, or 0 and the counts and arrays of the draft
 abbrev pub WalkedTo : Reached → Walked → List ℕ → List ℤ → Type 0
 WalkedTo (Reached.stopped n line) w shape ends = (w .number ≡ n) × (w .line ≡ line) × (n ≡ 0 → ⊥)
-WalkedTo (Reached.came d) w shape ends = (w .number ≡ 0) × Held d (w .state) shape ends
+WalkedTo (Reached.came d) w shape ends = (w .number ≡ 0) × DraftIn d (w .state) shape ends
 
 pub record Walks (packed shape : List ℕ) (ends : List ℤ) (w : Walked) (shape′ : List ℕ) (ends′ : List ℤ) : Type 0 where
-  pub walked : (fs : List (List ℕ)) → packed ≡ pack fs → Held empty startState shape ends → WalkedTo (reach fs empty 1) w shape′ ends′
+  pub walked : (fs : List (List ℕ)) → packed ≡ pack fs → DraftIn empty startProgress shape ends → WalkedTo (reach fs empty 1) w shape′ ends′
 
 -- ---- where frames begin
 

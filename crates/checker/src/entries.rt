@@ -11,7 +11,7 @@ ghost use Rattle.value.specs.Machine.{columnOf};
 ghost use Rattle.meaning.specs.Bounds.{setBound};
 ghost use Rattle.catalog.specs.Arrays.{putShape, putRanges};
 ghost use Rattle.checker.specs.Entries.{columnFrom, columnIn, HullsPut, TableEntered, SetEntered};
-ghost use Rattle.checker.specs.Layout.{setOperation};
+ghost use Rattle.checker.specs.FixedFaults.{setOperation};
 ghost use Rattle.checker.specs.Packed.{tooMany, cappedProduct, columnsFrom, tableCells, cellsFrom, Counted};
 
 const TABLE: u8 = 1;

@@ -5,7 +5,7 @@ ghost use lib.ListN.{getD};
 ghost use Rattle.value.specs.Integer.{bytesZ};
 ghost use Rattle.language.specs.Frames.{columnField, pairField};
 ghost use Rattle.checker.specs.Faults.{faultAt};
-ghost use Rattle.checker.specs.Layout.{columnsFault, pairsFault, parentCount, columnPairing, pairing, setOperation, setRules, TableFault, KeyFault, SetFault, GoalFault};
+ghost use Rattle.checker.specs.FixedFaults.{columnsFault, pairsFault, parentCount, columnPairing, pairing, setOperation, setRules, TableFault, KeyFault, SetFault, GoalFault};
 use super::entries;
 use super::fields;
 use value::boolean;

@@ -2,7 +2,7 @@
 use super::entries;
 use super::fields;
 use super::state;
-use super::state::State;
+use super::state::Progress;
 use super::step;
 use text;
 ghost use mathlib.Core.Path.{_≡_};
@@ -31,7 +31,7 @@ pub struct Plan {
 struct Walked {
     number: u8,
     line: u16,
-    state: State,
+    state: Progress,
 }
 
 // The frames of packed bytes, in turn.

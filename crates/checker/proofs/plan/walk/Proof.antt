@@ -7,7 +7,7 @@ use lib.ListN.{length}
 use borrow.Author.Needs.{needs}
 use Rattle.text.specs.Answers.{pack}
 use Rattle.language.specs.Draft.{empty}
-use Rattle.checker.specs.Standing.{Held, startState}
+use Rattle.checker.specs.Standing.{DraftIn, startProgress}
 use Rattle.checker.proofs.WalkLaws.{Left, never-short, walk-stops, walk-goes, walk-ends, walk-begins}
 use Rattle.checker.proofs.plan.walk.Statement.{statement}
 use Rattle.checker.proofs.plan.walk.Tie as tie
@@ -15,7 +15,7 @@ use Rattle.checker.proofs.plan.walk.Tie as tie
 abbrev Inv-loop : tie.InvT-loop
 Inv-loop packed shape₀ ends₀ s₀ at₀ line₀ shape ends s at line =
     (length shape ≡ length shape₀) × (length ends ≡ length ends₀) × (line ≤ at)
-    × ((fs : List (List ℕ)) → packed ≡ pack fs → Held empty startState shape₀ ends₀ → Left packed s shape ends at line fs)
+    × ((fs : List (List ℕ)) → packed ≡ pack fs → DraftIn empty startProgress shape₀ ends₀ → Left packed s shape ends at line fs)
 
 abbrev μ-loop : tie.MeasureT-loop
 μ-loop packed shape₀ ends₀ s₀ at₀ line₀ shape ends s at line = length packed - at
