@@ -3,7 +3,7 @@ pub mod Faults
 pub mod Catalogued
 pub mod FixedFaults
 pub mod Entries
-pub mod Packed
+pub mod CandidateCount
 pub mod ViewFaults
 pub mod ViewRules
 pub mod Standing
