@@ -33,7 +33,7 @@ use Rattle.bounds.proofs.Parts.{ranged-is}
 use Rattle.language.specs.Draft.{Draft, Item, added, relationCount, schemasOf, width}
 use Rattle.language.specs.Frames.{times, field, fromList, placeField, basicFrame, groupedFrame, wholeFault}
 use Rattle.checker.specs.Catalogued.{Catalogued}
-use Rattle.checker.specs.ViewRules.{factorAt, productOf, Product, putRanged, viewFault, Room, Selects, Answer, Tail, Rules}
+use Rattle.checker.specs.ViewRules.{factorAt, productOf, Product, putRanged, viewFault, EntryRoom, Selects, RuledAs, Tail, Rules}
 use Rattle.checker.specs.declared.view_rules.Ruled.{Ruled}
 use Rattle.catalog.proofs.ArrayLaws.{put-length, put-next, put-outside, outside-same, outside-more, outside-ranges}
 use Rattle.checker.proofs.EntryLaws.{view-entered}
@@ -44,21 +44,21 @@ use Rattle.checker.proofs.ViewFields.{fieldAt, all-snoc, drop-as, part-
 -- ---- the answer for a frame whose from list is `items`
 
 record BasicOf (frame items shape : List ℕ) (ends : List ℤ) (r : ℕ) (ends′ : List ℤ) (a : Ruled) : Type 0 where
-  ruled : Room shape ends items r → length items ≤ 3 → fieldAt frame items 2 ≤ 8 → (w : Cond) (es : List Expr) (mid rest : List ℕ)
+  ruled : EntryRoom shape ends items r → length items ≤ 3 → fieldAt frame items 2 ≤ 8 → (w : Cond) (es : List Expr) (mid rest : List ℕ)
       → readC (widthsIn shape items) (drop (length items + 3) frame) ≡ Read.ok w mid
       → times (fieldAt frame items 2) (readE (widthsIn shape items)) mid ≡ Read.ok es rest
       → let I = itemsIn shape ends items in let R = productOf shape items in
-      Answer (allowedC anyColumn false w && all (allowedE anyColumn false) es) (withinC I R w && all (withinE I R) es) es I R r ends ends′ a
+      RuledAs (allowedC anyColumn false w && all (allowedE anyColumn false) es) (withinC I R w && all (withinE I R) es) es I R r ends ends′ a
 
 record GroupedOf (frame items shape : List ℕ) (ends : List ℤ) (r : ℕ) (ends′ : List ℤ) (a : Ruled) : Type 0 where
-  ruled : Room shape ends items r → length items ≤ 3 → fieldAt frame items 3 ≤ 8 → (w : Cond) (gs : List Place) (h : Cond) (es : List Expr)
+  ruled : EntryRoom shape ends items r → length items ≤ 3 → fieldAt frame items 3 ≤ 8 → (w : Cond) (gs : List Place) (h : Cond) (es : List Expr)
       (mid mid′ mid″ rest : List ℕ)
       → readC (widthsIn shape items) (drop (length items + 4) frame) ≡ Read.ok w mid
       → times (fieldAt frame items 2) (placeField (widthsIn shape items)) mid ≡ Read.ok gs mid′
       → readC (widthsIn shape items) mid′ ≡ Read.ok h mid″
       → times (fieldAt frame items 3) (readE (widthsIn shape items)) mid″ ≡ Read.ok es rest
       → let I = itemsIn shape ends items in let R = productOf shape items in
-      Answer (allowedC anyColumn false w && (allowedC (groupingColumn gs) true h && all (allowedE (groupingColumn gs) true) es))
+      RuledAs (allowedC anyColumn false w && (allowedC (groupingColumn gs) true h && all (allowedE (groupingColumn gs) true) es))
       (withinC I R w && (withinC I R h && all (withinE I R) es)) es I R r ends ends′ a
 
 -- ---- the row bound
@@ -180,7 +180,7 @@ tail-ruled frame head count items shape ends r rule ends′ a allowed within s f
 }
 
 answer-as : {A A′ W W′ : Bool} {es : List Expr} {I : List (List Range)} {R r : ℕ} {ends ends′ : List ℤ} {a : Ruled} → A ≡ A′ → W ≡ W′
-    → Answer A W es I R r ends ends′ a → Answer A′ W′ es I R r ends ends′ a
+    → RuledAs A W es I R r ends ends′ a → RuledAs A′ W′ es I R r ends ends′ a
 answer-as {es = es} {I = I} {R = R} {r = r} {ends = ends} {ends′ = ends′} {a = a} p q x = rw (← p, ← q) x
 
 abbrev pub plainRule : ℕ → Rule
@@ -204,7 +204,7 @@ module _ (frame items shape : List ℕ) (ends : List ℤ) (r : ℕ) (ends′ : L
         let read : times count (readE (widthsIn shape items)) (drop (w′ .next) frame) ≡ Read.ok es rest =
         ap₂ (λ k bs. times k (readE (widthsIn shape items)) bs) ce next ∙ readS in
         let x = s′ .ruled room (rw ce narrow) es rest read in
-        subst (λ R. Answer (allowedC anyColumn false w && all (allowedE anyColumn false) es) (withinC I R w && all (withinE I R) es) es I R r ends ends′ a)
+        subst (λ R. RuledAs (allowedC anyColumn false w && all (allowedE anyColumn false) es) (withinC I R w && all (withinE I R) es) es I R r ends ends′ a)
         (product .product few)
         (answer-as (ap (λ b. b && all (allowedE anyColumn false) es) al) (ap (λ b. b && all (withinE I bound) es) wi) x);
   }
@@ -233,7 +233,7 @@ module _ (frame items shape : List ℕ) (ends : List ℤ) (r : ℕ) (ends′ : L
         let within : ((w′ .within && h′ .within) && all (withinE I bound) es) ≡ (withinC I bound w && (withinC I bound h && all (withinE I bound) es)) =
         and-assoc (w′ .within) (h′ .within) (all (withinE I bound) es)
         ∙ ap₂ (λ b c. b && (c && all (withinE I bound) es)) wi wi′ in
-        subst (λ R. Answer (allowedC anyColumn false w && (allowedC (groupingColumn gs) true h && all (allowedE (groupingColumn gs) true) es))
+        subst (λ R. RuledAs (allowedC anyColumn false w && (allowedC (groupingColumn gs) true h && all (allowedE (groupingColumn gs) true) es))
         (withinC I R w && (withinC I R h && all (withinE I R) es)) es I R r ends ends′ a)
         (product .product few) (answer-as fit within x);
   }
@@ -266,12 +266,12 @@ module _ (d : Draft) {shape : List ℕ} {ends : List ℤ} (c : Catalogued d shap
       ap (foldr _*_ 1) (map-same (λ i. schema (schemasOf d) i .bound) (boundAt shape) (all-given (bound-known c) fs))
 
   module _ (r : ℕ) (e : r ≡ relationCount d) (l : r < 16) where
-    room-for : (fs : List ℕ) → All (λ i. i < relationCount d) fs → Room shape ends fs r
+    room-for : (fs : List ℕ) → All (λ i. i < relationCount d) fs → EntryRoom shape ends fs r
     room-for fs h = record { place = l; size = c .ends-size; widths = c .widths; earlier = all-map (λ x k. omega arith) h }
 
     answer-rules : (ends′ : List ℤ) (a : Ruled) (q : View) (A W : Bool) (es : List Expr) (I : List (List Range)) (R : ℕ)
         → wholeFault d (Item.view q) ≡ viewFault A R W → viewSchema (schemasOf d) q ≡ record { bound = R; ranges = map (range I R) es }
-        → Answer A W es I R r ends ends′ a → Ruling d r shape ends′ a q
+        → RuledAs A W es I R r ends ends′ a → Ruling d r shape ends′ a q
     answer-rules ends′ a q A W es I R f v x = record {
       fault = x .fault ∙ sym f;
       entered = λ z.

@@ -1,6 +1,6 @@
 use mathlib.Core.Path.{sym}
 use borrow.Author.Tests.{eq-eqb, ne-eqb}
-use Rattle.checker.specs.Layout.{columnPairing}
+use Rattle.checker.specs.FixedFaults.{columnPairing}
 use borrow.Author.Needs.{needs}
 use Rattle.checker.proofs.fixed.column_pairing.Statement.{statement}
 use Rattle.checker.proofs.fixed.column_pairing.Tie as tie

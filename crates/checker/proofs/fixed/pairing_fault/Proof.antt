@@ -1,7 +1,7 @@
 use Prim.Native.Nat.{_+_}
 use mathlib.Core.Path.{_≡_, refl, sym, _∙_}
 use native.Mathlib.Omega.{arith}
-use Rattle.checker.specs.Layout.{pairing}
+use Rattle.checker.specs.FixedFaults.{pairing}
 use Rattle.checker.proofs.PairLaws.{pairing-stop, pairing-go, pairing-end}
 use Rattle.checker.proofs.fixed.pairing_fault.Statement.{statement}
 use Rattle.checker.proofs.fixed.pairing_fault.Tie as tie

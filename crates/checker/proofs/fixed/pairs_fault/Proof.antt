@@ -1,7 +1,7 @@
 use Prim.Native.Nat.{_+_, _*_}
 use mathlib.Core.Path.{_≡_, refl, sym, _∙_}
 use native.Mathlib.Omega.{arith}
-use Rattle.checker.specs.Layout.{pairsFault}
+use Rattle.checker.specs.FixedFaults.{pairsFault}
 use Rattle.checker.proofs.SizedLaws.{sized-pair, times-stop, times-go, times-end}
 use Rattle.checker.proofs.fixed.pairs_fault.Statement.{statement}
 use Rattle.checker.proofs.fixed.pairs_fault.Tie as tie

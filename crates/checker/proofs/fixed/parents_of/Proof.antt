@@ -3,7 +3,7 @@ use mathlib.Core.Path.{_≡_, refl, sym, ap, _∙_}
 use native.Mathlib.Omega.{arith}
 use lib.Dec.{eqb}
 use Rattle.value.specs.Bag.{tick}
-use Rattle.checker.specs.Layout.{parentCount}
+use Rattle.checker.specs.FixedFaults.{parentCount}
 use Rattle.checker.proofs.PairLaws.{parents-more, parents-end}
 use Rattle.checker.proofs.fixed.parents_of.Statement.{statement}
 use Rattle.checker.proofs.fixed.parents_of.Tie as tie
