@@ -2,7 +2,7 @@
 use mathlib.Core.Path.{_≡_, refl, sym, ap, ap₂, _∙_}
 use mathlib.Core.Bool.{Bool, true, false, _||_, cond, true≢false}
 use mathlib.Core.List.{List}
-use Prim.Native.Nat.{ℕ, zero, suc, _+_, _≤_, _<_}
+use Prim.Native.Nat.{ℕ, suc, _+_, _≤_, _<_}
 use native.Mathlib.Omega.{arith}
 use lib.Dec.{ltb, eqb}
 use lib.IntN.{ℤ}
@@ -11,9 +11,8 @@ use lib.Seq.{getD-set-same, getD-set-other}
 use Rattle.value.specs.Bag.{tick}
 use Rattle.value.proofs.Decides.{by-test}
 use Rattle.value.proofs.Bags.{tick-one}
-use Rattle.meaning.specs.Lists.{isPos, any}
+use Rattle.meaning.specs.Lists.{Each, isPos, any}
 use Rattle.meaning.specs.Syntax.{Table, Goal, File, Database}
-use Rattle.meaning.specs.Lists.{Each}
 use Rattle.meaning.specs.Rows.{rows}
 use Rattle.meaning.specs.Bounds.{schemas}
 use Rattle.meaning.specs.Valid.{InRange, valid}

@@ -3,7 +3,7 @@ use mathlib.Core.Path.{_≡_, _∙_}
 use mathlib.Core.Bool.{Bool, true, false}
 use mathlib.Core.List.{List}
 use mathlib.Core.Option.{some}
-use Prim.Native.Nat.{ℕ, _+_, _≤_, _<_}
+use Prim.Native.Nat.{ℕ, _<_}
 use native.Mathlib.Omega.{arith}
 use lib.IntN.{ℤ}
 use lib.ListN.{length, getD, replicate, getD-replicate}
@@ -17,7 +17,6 @@ use Rattle.language.specs.Legal.{Legal, tableAt}
 use Rattle.catalog.specs.FileIn.{FileIn, TablesCounted}
 use Rattle.catalog.specs.declared.outline.Outline.{Outline}
 use Rattle.catalog.proofs.FileLaws.{rows-are}
-use Rattle.store.specs.Rows.{rowsIn}
 use Rattle.cases.specs.TablesIn.{TablesIn}
 use Rattle.cases.specs.Needs.{Flag, Asks, Wants, GoalIn, Covers}
 use Rattle.cases.specs.Judgement.{TablesKept}

@@ -1,13 +1,13 @@
 -- What the tests of keys give. Assumes nothing: these are definitions.
 use mathlib.Core.Path.{_≡_}
-use mathlib.Core.Bool.{Bool, _&&_}
-use mathlib.Core.List.{List, [], _∷_, _++_, map}
+use mathlib.Core.Bool.{Bool}
+use mathlib.Core.List.{List, _++_, map}
 use Prim.Native.Nat.{ℕ, _<_}
 use lib.IntN.{ℤ}
-use lib.ListN.{length, getD, drop}
+use lib.ListN.{length, drop}
 use Rattle.text.specs.Answers.{pack}
 use Rattle.value.specs.Bag.{All}
-use Rattle.meaning.specs.Lists.{all, any, pairwise, each, joined}
+use Rattle.meaning.specs.Lists.{all, any, each}
 use Rattle.meaning.specs.Syntax.{Table, Pair, ForeignKey, File, Database}
 use Rattle.meaning.specs.Valid.{Shaped, differ, keyHolds, agrees, foreignKeyHolds, valid}
 use Rattle.language.specs.Legal.{LegalKey, LegalPair, tableAt}

@@ -8,14 +8,7 @@ use value::boolean;
 ghost use Rattle.cases.specs.Judgement.{SignNoted, RowsNoted, Evaluates, IsWanted, IsCase};
 
 // Whether view v is negative, if it is asked.
-fn note_sign(
-    frame: &[u8],
-    asked: &[u8],
-    counts: &[u8],
-    refuted: &mut [u8],
-    work: &mut [i32],
-    v: u8,
-)
+fn note_sign(frame: &[u8], asked: &[u8], counts: &[u8], refuted: &mut [u8], work: &mut [i32], v: u8)
     ensures { λ _. ⌜ SignNoted (now (frame .entry)) (now (asked .entry)) (now (counts .entry)) (now (refuted .entry)) (now (work .entry)) v (now (refuted .exit)) (now (work .exit)) ⌝ }
 {
     if slice::byte_at(asked, v as usize) != 1 {
@@ -26,14 +19,7 @@ fn note_sign(
 }
 
 // The rows of view v, if they are needed, and their number.
-fn note_rows(
-    frame: &[u8],
-    shape: &[u8],
-    needed: &[u8],
-    counts: &mut [u8],
-    work: &mut [i32],
-    v: u8,
-)
+fn note_rows(frame: &[u8], shape: &[u8], needed: &[u8], counts: &mut [u8], work: &mut [i32], v: u8)
     ensures { λ _. ⌜ RowsNoted (now (frame .entry)) (now (shape .entry)) (now (needed .entry)) (now (counts .entry)) (now (work .entry)) v (now (counts .exit)) (now (work .exit)) ⌝ }
 {
     if slice::byte_at(needed, v as usize) != 1 {
@@ -69,7 +55,7 @@ pub fn evaluate(
 }
 
 // What is wanted of the goal: that it is negative, or that it has a row.
-// Refused: its sign for either; the rows of the first relation.
+// Refused: its number of rows for its sign; a goal without rows.
 pub fn wanted(goal: Goal, counts: &[u8], refuted: &[u8]) -> bool
     ensures { λ r. ⌜ IsWanted goal (now (counts .entry)) (now (refuted .entry)) r ⌝ }
 {
