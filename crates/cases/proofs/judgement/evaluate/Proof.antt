@@ -17,8 +17,8 @@ abbrev μ-loop : tie.MeasureT-loop
 loop-holds : tie.Need-loop-holds Inv-loop μ-loop
 loop-holds c = (turned-none, refl, refl, refl)
 
-frame-at-requires : tie.Need-frame-at-requires Inv-loop μ-loop
-frame-at-requires c κs = search needs
+frame-of-requires : tie.Need-frame-of-requires Inv-loop μ-loop
+frame-of-requires c κs = search needs
 
 note-sign-requires : tie.Need-note-sign-requires Inv-loop μ-loop
 note-sign-requires c κs = search needs
@@ -33,7 +33,7 @@ loop-less : tie.Need-loop-less Inv-loop μ-loop
 loop-less c = omega arith
 
 loop-again : tie.Need-loop-again Inv-loop μ-loop
-loop-again c = (turned-more (c .before .before .before .before .before .before .before .before .before .before .before .before .before .before .before .before .loop .inv .0) (omega arith) (c .before .before .before .before .before .before .before .before .before .before .before .before .before .frame-at .ensures .1) (c .before .before .before .before .before .before .before .before .before .note-sign .ensures) (c .before .before .before .note-rows .ensures), search needs, search needs, search needs)
+loop-again c = (turned-more (c .before .before .before .before .before .before .before .before .before .before .before .before .before .before .before .before .loop .inv .0) (omega arith) (c .before .before .before .before .before .before .before .before .before .before .before .before .before .frame-of .ensures) (c .before .before .before .before .before .before .before .before .before .note-sign .ensures) (c .before .before .before .note-rows .ensures), search needs, search needs, search needs)
 
 same-length : tie.Need-same-length Inv-loop μ-loop
 same-length c = search needs
@@ -54,7 +54,7 @@ evaluate-spec =
     Inv-loop
     μ-loop
     loop-holds
-    frame-at-requires
+    frame-of-requires
     note-sign-requires
     note-rows-requires
     add-v
