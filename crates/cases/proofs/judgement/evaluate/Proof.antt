@@ -34,9 +34,14 @@ loop-less : tie.Need-loop-less Inv-loop μ-loop
 loop-less c = omega arith
 
 loop-again : tie.Need-loop-again Inv-loop μ-loop
-loop-again c = (turned-more (c .before .before .before .before .before .before .before .before .before .before .before .before .before .before .before .before .loop .inv .0) (omega arith)
-    (c .before .before .before .before .before .before .before .before .before .before .before .before .before .frame-of .ensures)
-    (c .before .before .before .before .before .before .before .before .before .note-sign .ensures) (c .before .before .before .note-rows .ensures), search needs, search needs, search needs)
+loop-again c = (
+  turned-more (c .before .before .before .before .before .before .before .before .before .before .before .before .before .before .before .before .loop .inv .0) (omega arith)
+      (c .before .before .before .before .before .before .before .before .before .before .before .before .before .frame-of .ensures)
+      (c .before .before .before .before .before .before .before .before .before .note-sign .ensures) (c .before .before .before .note-rows .ensures),
+  search needs,
+  search needs,
+  search needs,
+)
 
 same-length : tie.Need-same-length Inv-loop μ-loop
 same-length c = search needs

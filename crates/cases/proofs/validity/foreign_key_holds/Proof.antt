@@ -52,9 +52,12 @@ loop-less : tie.Need-loop-less Inv-loop μ-loop
 loop-less c = omega arith
 
 loop-again : tie.Need-loop-again Inv-loop μ-loop
-loop-again c = (omega arith, parents-more _ _ _ (c .before .before .before .before .before .before .before .before .byte-at .ensures)
-    (c .before .before .before .before .before .before .before .byte-at2 .ensures) (c .before .before .before .before .before .before .byte-at3 .ensures)
-    (c .before .before .before .before .before .byte-at4 .ensures) (c .before .before .before .before .byte-at5 .ensures) (c .before .before .before .loop .inv .1) (c .before .has-parent .ensures) (not-false _ (c .if1 .left)))
+loop-again c = (
+  omega arith,
+  parents-more _ _ _ (c .before .before .before .before .before .before .before .before .byte-at .ensures)
+      (c .before .before .before .before .before .before .before .byte-at2 .ensures) (c .before .before .before .before .before .before .byte-at3 .ensures)
+      (c .before .before .before .before .before .byte-at4 .ensures) (c .before .before .before .before .byte-at5 .ensures) (c .before .before .before .loop .inv .1) (c .before .has-parent .ensures) (not-false _ (c .if1 .left)),
+)
 
 returns-2 : tie.Need-returns-2 Inv-loop μ-loop
 returns-2 c = parents-whole _ _ _ (c .before .before .before .before .before .before .byte-at .ensures) (c .before .before .before .before .before .byte-at2 .ensures)
