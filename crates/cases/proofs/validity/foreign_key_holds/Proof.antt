@@ -41,7 +41,9 @@ has-parent-requires : tie.Need-has-parent-requires Inv-loop μ-loop
 has-parent-requires c κs = search needs
 
 returns : tie.Need-returns Inv-loop μ-loop
-returns c = parents-stop _ _ _ (c .before .before .before .before .before .before .before .before .byte-at .ensures) (c .before .before .before .before .before .before .before .byte-at2 .ensures) (c .before .before .before .before .before .before .byte-at3 .ensures) (c .before .before .before .before .before .byte-at4 .ensures) (c .before .before .before .before .byte-at5 .ensures) (c .before .before .loop-test .taken) (c .before .has-parent .ensures) (not-true _ (c .if1 .taken))
+returns c = parents-stop _ _ _ (c .before .before .before .before .before .before .before .before .byte-at .ensures) (c .before .before .before .before .before .before .before .byte-at2 .ensures)
+    (c .before .before .before .before .before .before .byte-at3 .ensures) (c .before .before .before .before .before .byte-at4 .ensures) (c .before .before .before .before .byte-at5 .ensures)
+    (c .before .before .loop-test .taken) (c .before .has-parent .ensures) (not-true _ (c .if1 .taken))
 
 add-i : tie.Need-add-i Inv-loop μ-loop
 add-i c = search needs
@@ -50,10 +52,16 @@ loop-less : tie.Need-loop-less Inv-loop μ-loop
 loop-less c = omega arith
 
 loop-again : tie.Need-loop-again Inv-loop μ-loop
-loop-again c = (omega arith, parents-more _ _ _ (c .before .before .before .before .before .before .before .before .byte-at .ensures) (c .before .before .before .before .before .before .before .byte-at2 .ensures) (c .before .before .before .before .before .before .byte-at3 .ensures) (c .before .before .before .before .before .byte-at4 .ensures) (c .before .before .before .before .byte-at5 .ensures) (c .before .before .before .loop .inv .1) (c .before .has-parent .ensures) (not-false _ (c .if1 .left)))
+loop-again c = (
+  omega arith,
+  parents-more _ _ _ (c .before .before .before .before .before .before .before .before .byte-at .ensures)
+      (c .before .before .before .before .before .before .before .byte-at2 .ensures) (c .before .before .before .before .before .before .byte-at3 .ensures)
+      (c .before .before .before .before .before .byte-at4 .ensures) (c .before .before .before .before .byte-at5 .ensures) (c .before .before .before .loop .inv .1) (c .before .has-parent .ensures) (not-false _ (c .if1 .left)),
+)
 
 returns-2 : tie.Need-returns-2 Inv-loop μ-loop
-returns-2 c = parents-whole _ _ _ (c .before .before .before .before .before .before .byte-at .ensures) (c .before .before .before .before .before .byte-at2 .ensures) (c .before .before .before .before .byte-at3 .ensures) (c .before .before .before .byte-at4 .ensures) (c .before .before .byte-at5 .ensures) (omega arith) (c .before .loop .inv .1)
+returns-2 c = parents-whole _ _ _ (c .before .before .before .before .before .before .byte-at .ensures) (c .before .before .before .before .before .byte-at2 .ensures)
+    (c .before .before .before .before .byte-at3 .ensures) (c .before .before .before .byte-at4 .ensures) (c .before .before .byte-at5 .ensures) (omega arith) (c .before .loop .inv .1)
 
 pub foreign-key-holds-spec : {M : Type 1} → statement M
 foreign-key-holds-spec =

@@ -26,7 +26,8 @@ foreign-key-holds-requires : tie.Need-foreign-key-holds-requires Inv-loop μ-loo
 foreign-key-holds-requires c κs = search needs
 
 returns-2 : tie.Need-returns-2 Inv-loop μ-loop
-returns-2 c = keys-stop _ _ _ _ _ (c .before .before .before .before .before .loop .inv .1) (c .before .before .before .before .loop-test .taken) (c .before .before .frame-at .ensures) (c .before .foreign-key-holds .ensures) (not-true _ (c .if2 .taken))
+returns-2 c = keys-stop _ _ _ _ _ (c .before .before .before .before .before .loop .inv .1) (c .before .before .before .before .loop-test .taken) (c .before .before .frame-at .ensures)
+    (c .before .foreign-key-holds .ensures) (not-true _ (c .if2 .taken))
 
 add-next : tie.Need-add-next Inv-loop μ-loop
 add-next c = search needs
@@ -41,7 +42,11 @@ loop-less : tie.Need-loop-less Inv-loop μ-loop
 loop-less c = omega arith
 
 loop-again : tie.Need-loop-again Inv-loop μ-loop
-loop-again c = (omega arith, keys-next _ _ _ _ _ (c .before .before .before .before .before .loop .inv .1) (c .before .before .before .before .loop-test .taken) (c .before .before .frame-at .ensures) (c .before .foreign-key-holds .ensures) (not-false _ (c .if2 .left)))
+loop-again c = (
+  omega arith,
+  keys-next _ _ _ _ _ (c .before .before .before .before .before .loop .inv .1) (c .before .before .before .before .loop-test .taken) (c .before .before .frame-at .ensures)
+      (c .before .foreign-key-holds .ensures) (not-false _ (c .if2 .left)),
+)
 
 returns-3 : tie.Need-returns-3 Inv-loop μ-loop
 returns-3 c = keys-end _ _ _ _ _ (omega arith) (c .before .loop .inv .1)
