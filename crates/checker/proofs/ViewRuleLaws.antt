@@ -3,14 +3,13 @@
 use mathlib.Core.Path.{_≡_, refl, sym, ap, ap₂, subst, _∙_}
 use mathlib.Core.Bool.{Bool, true, false, _&&_, cond, and-assoc}
 use mathlib.Core.List.{List, [], _∷_, _++_, foldr, map, map-append}
-use Prim.Native.Nat.{ℕ, _+_, _-_, _*_, _%_, _≤_, _<_}
+use Prim.Native.Nat.{ℕ, _+_, _*_, _%_, _≤_, _<_}
 use native.Mathlib.Nat.{mul-assoc}
 use native.Mathlib.Numerals.{add-one}
 use native.Mathlib.Omega.{arith}
 use lib.Dec.{leb}
 use lib.IntN.{ℤ}
-use lib.ListN.{length, getD, take, drop, length-drop}
-use lib.Seq.{length-take-le}
+use lib.ListN.{length, getD, drop}
 use borrow.Author.Tests.{leb-true}
 use Rattle.value.specs.Bag.{All}
 use Rattle.value.proofs.Decides.{by-test, and-parts}
@@ -20,7 +19,7 @@ use Rattle.range.specs.declared.Ranged.{Ranged}
 use Rattle.range.specs.declared.Ranged.the-variants.{Within, Beyond}
 use Rattle.meaning.specs.Lists.{all}
 use Rattle.meaning.specs.Syntax.{Expr, Cond, Place, View}
-use Rattle.language.specs.Reading.{Read, Reader, andThen, readE, readC}
+use Rattle.language.specs.Reading.{Read, readE, readC}
 use Rattle.meaning.specs.Bounds.{Schema, schema, viewSchema, itemRanges, productBound, range, withinE, withinC, allowedE, allowedC, anyColumn, groupingColumn}
 use Rattle.meaning.proofs.Elements.{all-given, map-same}
 use Rattle.language.proofs.Readers.{then-ok}

@@ -161,7 +161,7 @@ fn both(w: Tested, h: Tested) -> Tested
 }
 
 // The rules on the whole frame of a basic view, 7, 8 and 9, and the ranges of its columns.
-// Refused: the from count as the number of columns; its ranges as relation 0's.
+// Refused: no columns; its ranges as relation 0's.
 pub fn basic_rules(frame: &[u8], shape: &[u8], ends: &mut [i32], r: u8) -> Ruled
     ensures { λ a. ⌜ Rules basicFrame (now (frame .entry)) r (now (shape .entry)) (now (ends .entry)) (now (ends .exit)) a ⌝ }
 {
@@ -173,7 +173,7 @@ pub fn basic_rules(frame: &[u8], shape: &[u8], ends: &mut [i32], r: u8) -> Ruled
 }
 
 // The same of an aggregate view.
-// Refused: the where left out; the first bytes behind the from list as grouping columns.
+// Refused: the where left out; the bytes of the where as grouping columns.
 pub fn grouped_rules(frame: &[u8], shape: &[u8], ends: &mut [i32], r: u8) -> Ruled
     ensures { λ a. ⌜ Rules groupedFrame (now (frame .entry)) r (now (shape .entry)) (now (ends .entry)) (now (ends .exit)) a ⌝ }
 {

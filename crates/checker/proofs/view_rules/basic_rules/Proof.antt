@@ -1,3 +1,4 @@
+-- `checker::view_rules::basic_rules` meets its contract. Assumes nothing.
 use Rattle.checker.proofs.ViewRuleLaws.{basic-rules}
 use borrow.Author.Needs.{needs}
 use Rattle.checker.proofs.view_rules.basic_rules.Statement.{statement}

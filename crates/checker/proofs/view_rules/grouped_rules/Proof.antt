@@ -1,3 +1,4 @@
+-- `checker::view_rules::grouped_rules` meets its contract. Assumes nothing.
 use Rattle.checker.proofs.ViewRuleLaws.{grouped-rules}
 use borrow.Author.Needs.{needs}
 use Rattle.checker.proofs.view_rules.grouped_rules.Statement.{statement}
