@@ -36,7 +36,7 @@ fn part(bytes: &[u8], at: usize, n: u8) -> &[u8]
 }
 
 // The frame whose length stands at a place; where the bytes end early, what there is of it.
-// Refused: the length with it; one byte less.
+// Refused: the length with it; without its first byte.
 pub fn frame_at(bytes: &[u8], at: usize) -> &[u8]
     ensures { λ r. ⌜ now r ≡ frameAt (now (bytes .entry)) at ⌝ }
 {
@@ -57,7 +57,7 @@ fn start_of(starts: &[u32], r: u8) -> usize
 }
 
 // The frame of a relation.
-// Refused: the first relation's; the place of its length one too far.
+// Refused: the first relation's; the second relation's.
 pub fn frame_of<'a>(bytes: &'a [u8], starts: &[u32], r: u8) -> &'a [u8]
     ensures { λ f. ⌜ now f ≡ frameIn (now (bytes .entry)) (now (starts .entry)) r ⌝ }
 {
@@ -65,7 +65,7 @@ pub fn frame_of<'a>(bytes: &'a [u8], starts: &[u32], r: u8) -> &'a [u8]
 }
 
 // The from list of a basic or an aggregate view's frame.
-// Refused: its length with it; without its last item.
+// Refused: its length with it; without its first item.
 pub fn from_list(frame: &[u8]) -> &[u8]
     ensures { λ r. ⌜ now r ≡ fromsIn (now (frame .entry)) ⌝ }
 {
@@ -104,7 +104,7 @@ pub fn parts_after(frame: &[u8], grouped: bool) -> Parts
 }
 
 // The parts by the frame's kind.
-// Refused: those of a basic view always; those of an aggregate view where the kind is basic.
+// Refused: by the from count; those of a basic view for an aggregate one.
 pub fn parts_of(frame: &[u8]) -> Parts
     ensures { λ r. ⌜ r ≡ partsIn (now (frame .entry)) ⌝ }
 {

@@ -1,13 +1,13 @@
 -- What a frame without fault adds to the checker's arrays. Assumes nothing: these are definitions.
 use mathlib.Core.Path.{_≡_}
 use mathlib.Core.List.{List, []}
-use Prim.Native.Nat.{ℕ, zero, suc, _+_, _*_, _<_, _≤_}
-use lib.IntN.{ℤ, pos}
+use Prim.Native.Nat.{ℕ, _+_, _*_, _<_, _≤_}
+use lib.IntN.{ℤ}
 use lib.ListN.{length, getD, drop, set}
 use Rattle.value.specs.Integer.{bytesZ}
 use Rattle.value.specs.Value.{Column}
 use Rattle.range.specs.declared.Range.{Range}
-use Rattle.range.specs.Ranges.{constantOf, columnOf, hullOf}
+use Rattle.range.specs.Ranges.{columnOf, hullOf}
 use Rattle.meaning.specs.Syntax.{Table, SetOperation, View}
 use Rattle.language.specs.Reading.{Read}
 use Rattle.meaning.specs.Bounds.{viewSchema}

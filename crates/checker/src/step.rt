@@ -1,12 +1,10 @@
 // One frame: its fault, or what the counts and the arrays are with it.
 use super::entries;
-use super::fields;
 use super::fixed;
 use super::state;
 use super::state::Progress;
 use super::view_bytes;
 use super::view_rules;
-ghost use mathlib.Core.Path.{_≡_};
 ghost use Rattle.language.specs.Written.{setKind};
 ghost use Rattle.checker.specs.FixedFaults.{setOperation};
 ghost use Rattle.checker.specs.Standing.{Turned, Stepped};

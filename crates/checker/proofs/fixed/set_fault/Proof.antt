@@ -1,3 +1,4 @@
+-- `checker::fixed::set_fault` meets its contract. Assumes nothing.
 use mathlib.Core.Path.{ap, ap₂, _∙_}
 use Rattle.catalog.specs.Arrays.{widthAt, boundAt}
 use Rattle.checker.specs.Faults.{first}

@@ -1,3 +1,4 @@
+-- `checker::plan::check` meets its contract. Assumes nothing.
 use Rattle.text.proofs.Callers.{refused-as}
 use Rattle.checker.proofs.PlanLaws.{plan-refused, used-inside, used-taken, used-small, way-stopped, way-without-goal, way-too-large, way-done}
 use borrow.Author.Needs.{needs}

@@ -1,3 +1,4 @@
+-- `checker::view_bytes::width` meets its contract. Assumes nothing.
 use mathlib.Core.Path.{ap, _∙_}
 use Rattle.catalog.specs.Arrays.{widthAt}
 use borrow.Author.Needs.{needs}
