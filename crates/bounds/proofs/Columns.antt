@@ -16,30 +16,11 @@ use Rattle.range.proofs.Bits32.{ranged-fits}
 use Rattle.meaning.specs.Syntax.{Place}
 use Rattle.meaning.specs.Bounds.{anyColumn, groupingColumn}
 use Rattle.meaning.proofs.ListSteps.{map-at}
-use Rattle.catalog.specs.Arrays.{widthAt, rangesFrom, rangesIn, itemsIn}
+use Rattle.catalog.specs.Arrays.{rangesIn, rangeAt, itemsIn}
 use Rattle.bounds.specs.Walk.{placesFrom, columnIn, columnsOf}
 use Rattle.bounds.specs.declared.Rule.{Rule}
 
 -- ---- columns
-
--- the two ends of the column c, from a place on
-abbrev pub endsAt : List ℤ → ℕ → Range
-endsAt ends at = record { lo = getD ends at (pos 0); hi = getD ends (at + 1) (pos 0) }
-
-module _ (ends : List ℤ) (d : Range) where
-  range-at : (at n c : ℕ) → c < n → getD (rangesFrom ends at n) c d ≡ endsAt ends (at + 2 * c)
-  unfolding rangesFrom
-  range-at at zero c h = absurd (omega arith)
-  range-at at (suc n) zero h = let k : at + 2 * 0 ≡ at = omega arith in rw k
-  range-at at (suc n) (suc c) h =
-      let k : at + 2 + 2 * c ≡ at + 2 * suc c = omega arith in
-      range-at (at + 2) n c (omega arith) ∙ ap (endsAt ends) k
-
-  range-past : (at n c : ℕ) → n ≤ c → getD (rangesFrom ends at n) c d ≡ d
-  unfolding rangesFrom
-  range-past at zero c h = refl
-  range-past at (suc n) zero h = absurd (omega arith)
-  range-past at (suc n) (suc c) h = range-past (at + 2) n c (omega arith)
 
 module _ (shape : List ℕ) (ends : List ℤ) (items : List ℕ) (i c : ℕ) where
   abbrev Answers : Range → Type 0
@@ -51,22 +32,11 @@ module _ (shape : List ℕ) (ends : List ℤ) (items : List ℕ) (i c : ℕ) whe
       let k : length (itemsIn shape ends items) ≤ i = rw (length-map items (rangesIn shape ends)) h in
       rw (List·getD-eq-default (itemsIn shape ends items) [] k)
 
-  module _ (h : i < length items) where
-    abbrev relation : ℕ
-    relation = getD items i 0
-
-    of-relation : columnIn shape ends items i c ≡ getD (rangesIn shape ends relation) c (constantOf (pos 0))
-    unfolding columnIn
-    of-relation = ap (λ (rs : List Range). getD rs c (constantOf (pos 0))) (map-at (rangesIn shape ends) items i 0 [] h)
-
-    pub no-column : widthAt shape relation ≤ c → Answers (constantOf (pos 0))
-    unfolding ranged
-    no-column k = rw (of-relation, range-past ends (constantOf (pos 0)) (16 * relation) (widthAt shape relation) c k)
-
-    pub some-column : c < widthAt shape relation → {r : Range} → SFits w32 (r .lo) → SFits w32 (r .hi) → r ≡ endsAt ends (16 * relation + 2 * c) → Answers r
-    some-column k {r} l u e =
-        sym (ranged-fits r l u)
-        ∙ ap (λ (q : Range). ranged q) (e ∙ sym (of-relation ∙ range-at ends (constantOf (pos 0)) (16 * relation) (widthAt shape relation) c k))
+  pub some-item : i < length items → {r : Range} → SFits w32 (r .lo) → SFits w32 (r .hi) → r ≡ rangeAt shape ends (getD items i 0) c → Answers r
+  unfolding columnIn
+  some-item h {r} l u e =
+      let there = ap (λ (rs : List Range). getD rs c (constantOf (pos 0))) (map-at (rangesIn shape ends) items i 0 [] h) in
+      sym (ranged-fits r l u) ∙ ap (λ (q : Range). ranged q) (e ∙ sym there)
 
 -- ---- grouping columns
 

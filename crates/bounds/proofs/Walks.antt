@@ -25,7 +25,7 @@ use Rattle.catalog.specs.Arrays.{itemsIn}
 use Rattle.bounds.specs.Walk.{columnsOf, insideOf, widthsIn, rangedE, operatedR, roundedR, chosenR, aggregatedR, isWithin, sized, tested, columnAt, SizesE, SizesTwo, TestsC}
 use Rattle.bounds.specs.declared.Rule.{Rule}
 use Rattle.bounds.specs.declared.Sized.{Sized}
-use Rattle.bounds.specs.declared.Pair.{Pair}
+use Rattle.bounds.specs.declared.TwoSized.{TwoSized}
 use Rattle.bounds.specs.declared.Tested.{Tested}
 use Rattle.bounds.proofs.Fields.{settle, never, byte-ok, two-read, step-at, column-at, kind-at}
 use Rattle.bounds.proofs.Parts.{ranged-constant, ranged-column, ranged-operation, ranged-rounding, ranged-choice, ranged-aggregate, ranged-is}
@@ -124,7 +124,7 @@ module _ (frame items shape : List ℕ) (ends : List ℤ) (rule : Rule) where
           let t = column-at frame W (at + 1) q in
           rw (t .0) (t .1, refl, ranged-column shape ends items (rule .bound) (getD frame (at + 1) 0) (getD frame (at + 1 + 1) 0))))
 
-      pub on-operation : 0x02 ≤ getD frame at 0 → getD frame at 0 < 0x05 → {p : Pair} → SizesTwo frame (at + 1) items shape ends rule p
+      pub on-operation : 0x02 ≤ getD frame at 0 → getD frame at 0 < 0x05 → {p : TwoSized} → SizesTwo frame (at + 1) items shape ends rule p
           → {v : Ranged} → v ≡ operatedR (operationAt (getD frame at 0 - 0x02)) (p .first) (p .second)
           → {r : Sized} → r ≡ sized (p .next) (p .allowed) v → SizesE frame at items shape ends rule r
       on-operation lo hi {p} m {v} x s =
@@ -150,7 +150,7 @@ module _ (frame items shape : List ℕ) (ends : List ℤ) (rule : Rule) where
           (f .0, f .1, ap₂ roundedR (e ∙ sym (t .number)) (f .2) ∙ ranged-rounding I (rule .bound) n b)))
 
       pub on-choice : getD frame at 0 ≡ 0x06 → {c : Tested} → TestsC frame (at + 1) items shape ends rule c
-          → {p : Pair} → SizesTwo frame (c .next) items shape ends rule p
+          → {p : TwoSized} → SizesTwo frame (c .next) items shape ends rule p
           → {r : Sized} → r ≡ sized (p .next) (c .allowed && p .allowed) (chosenR (c .within) (p .first) (p .second)) → SizesE frame at items shape ends rule r
       on-choice k {c} d {p} m s = rw s (onE (atE 0x06 k) (omega (arith, d .further, m .further)) (λ y rest q.
           let (t, l, h, j) = then-ok (readC W body) _ q in
@@ -202,7 +202,7 @@ module _ (frame items shape : List ℕ) (ends : List ℤ) (rule : Rule) where
       pub on-always : getD frame at 0 ≡ 0x10 → {r : Tested} → r ≡ tested (at + 1) true true → TestsC frame at items shape ends rule r
       on-always k s = rw s (onC (atC 0x10 k) (omega arith) (λ c rest q. settle (FactsC (tested (at + 1) true true)) q (refl, refl, refl)))
 
-      pub on-comparison : 0x11 ≤ getD frame at 0 → getD frame at 0 < 0x14 → {p : Pair} → SizesTwo frame (at + 1) items shape ends rule p
+      pub on-comparison : 0x11 ≤ getD frame at 0 → getD frame at 0 < 0x14 → {p : TwoSized} → SizesTwo frame (at + 1) items shape ends rule p
           → {u w : Bool} → u ≡ isWithin (p .first) → w ≡ isWithin (p .second)
           → {r : Tested} → r ≡ tested (p .next) (p .allowed) (u && w) → TestsC frame at items shape ends rule r
       on-comparison lo hi {p} m {u} {w} x y s =

@@ -17,7 +17,7 @@ use Rattle.meaning.specs.Bounds.{range, withinE, withinC, allowedE, allowedC, a
 use Rattle.catalog.specs.Arrays.{widthAt, itemsIn}
 use Rattle.bounds.specs.declared.Rule.{Rule}
 use Rattle.bounds.specs.declared.Sized.{Sized}
-use Rattle.bounds.specs.declared.Pair.{Pair}
+use Rattle.bounds.specs.declared.TwoSized.{TwoSized}
 use Rattle.bounds.specs.declared.Tested.{Tested}
 
 -- ---- the rule on 07
@@ -101,7 +101,7 @@ pub record SizesE (frame : List ℕ) (at : ℕ) (items shape : List ℕ) (ends :
       × (r .range ≡ rangedE (itemsIn shape ends items) (rule .bound) e)
 
 -- two expressions, one after the other
-pub record SizesTwo (frame : List ℕ) (at : ℕ) (items shape : List ℕ) (ends : List ℤ) (rule : Rule) (r : Pair) : Type 0 where
+pub record SizesTwo (frame : List ℕ) (at : ℕ) (items shape : List ℕ) (ends : List ℤ) (rule : Rule) (r : TwoSized) : Type 0 where
   pub further : at ≤ r .next
   pub sizes : (a b : Expr) (mid rest : List ℕ) → readE (widthsIn shape items) (drop at frame) ≡ Read.ok a mid
       → readE (widthsIn shape items) mid ≡ Read.ok b rest

@@ -1,4 +1,5 @@
 // The rule on aggregates and the ranges of expressions, on frame bytes.
+use catalog::arrays;
 use range::Range;
 use range::Ranged;
 use slice::byte_at;
@@ -6,7 +7,6 @@ use value::integer;
 ghost use mathlib.Core.Path.{_≡_};
 ghost use mathlib.Core.Bool.{true, _&&_};
 ghost use Prim.Native.Nat.{_+_, _*_, _≤_};
-ghost use lib.IntN.{pos};
 ghost use lib.ListN.{length, getD};
 ghost use Rattle.value.specs.Integer.{bytesZ};
 ghost use Rattle.value.specs.Value.{operationAt, aggregateAt};
@@ -38,7 +38,7 @@ pub struct Tested {
 }
 
 // Of two expressions, one after the other.
-struct Pair {
+struct TwoSized {
     next: usize,
     allowed: bool,
     first: Ranged,
@@ -57,7 +57,7 @@ fn sizing(next: usize, allowed: bool, range: Ranged) -> Sized
 }
 
 // The same of a condition.
-fn verdict(next: usize, allowed: bool, within: bool) -> Tested
+fn testing(next: usize, allowed: bool, within: bool) -> Tested
     ensures { λ r. ⌜ r ≡ tested next allowed within ⌝ }
 {
     Tested {
@@ -65,13 +65,6 @@ fn verdict(next: usize, allowed: bool, within: bool) -> Tested
         allowed: allowed,
         within: within,
     }
-}
-
-// The number at i, 0 past the end.
-fn number_at(numbers: &[i32], i: usize) -> i32
-    ensures { λ r. ⌜ r ≡ getD (now (numbers .entry)) i (pos 0) ⌝ }
-{
-    if i < numbers.len() { numbers[i] } else { 0 }
 }
 
 // The step of a rounding.
@@ -99,16 +92,7 @@ fn range_of(items: &[u8], shape: &[u8], ends: &[i32], item: u8, column: u8) -> R
     if items.len() <= i {
         return Ranged::Within(Range { lo: 0, hi: 0 });
     }
-    let relation = byte_at(items, i) as usize;
-    let width = byte_at(shape, 4 * relation + 1);
-    if width <= column {
-        return Ranged::Within(Range { lo: 0, hi: 0 });
-    }
-    let at = 16 * relation + 2 * (column as usize);
-    Ranged::Within(Range {
-        lo: number_at(ends, at),
-        hi: number_at(ends, at + 1),
-    })
+    Ranged::Within(arrays::range_at(shape, ends, byte_at(items, i), column))
 }
 
 // Whether a column is one of `count` grouping columns, which begin at `places`.
@@ -204,7 +188,7 @@ fn hull(first: Ranged, second: Ranged) -> Ranged
 }
 
 // The first or the second; a range in the test counts too.
-fn chosen(test: Tested, p: Pair) -> Sized
+fn chosen(test: Tested, p: TwoSized) -> Sized
     ensures { λ r. ⌜ r ≡ sized (p .next) (test .allowed && p .allowed) (chosenR (test .within) (p .first) (p .second)) ⌝ }
 {
     let allowed = test.allowed & p.allowed;
@@ -239,14 +223,14 @@ fn is_within(range: Ranged) -> bool
 }
 
 // Two expressions, one after the other.
-fn two(frame: &[u8], at: usize, items: &[u8], shape: &[u8], ends: &[i32], rule: Rule) -> Pair
+fn two(frame: &[u8], at: usize, items: &[u8], shape: &[u8], ends: &[i32], rule: Rule) -> TwoSized
     ensures { λ r. ⌜ SizesTwo (now (frame .entry)) at (now (items .entry)) (now (shape .entry)) (now (ends .entry)) rule r ⌝ }
 {
     let a = expression(frame, at, items, shape, ends, rule);
     let b = expression(frame, a.next, items, shape, ends, rule);
     let first = a.range;
     let second = b.range;
-    Pair {
+    TwoSized {
         next: b.next,
         allowed: a.allowed & b.allowed,
         first: first,
@@ -309,24 +293,24 @@ pub fn condition(
     ensures { λ r. ⌜ TestsC (now (frame .entry)) at (now (items .entry)) (now (shape .entry)) (now (ends .entry)) rule r ⌝ }
 {
     if frame.len() <= at {
-        return verdict(at, false, false);
+        return testing(at, false, false);
     }
     let token = frame[at];
     let body = at + 1;
     match token {
-        0x10 => verdict(body, true, true),
+        0x10 => testing(body, true, true),
         0x11..=0x13 => {
             let p = two(frame, body, items, shape, ends, rule);
             let first = p.first;
             let second = p.second;
-            verdict(p.next, p.allowed, is_within(first) & is_within(second))
+            testing(p.next, p.allowed, is_within(first) & is_within(second))
         }
         0x14 => condition(frame, body, items, shape, ends, rule),
         0x15..=0x16 => {
             let c = condition(frame, body, items, shape, ends, rule);
             let d = condition(frame, c.next, items, shape, ends, rule);
-            verdict(d.next, c.allowed & d.allowed, c.within & d.within)
+            testing(d.next, c.allowed & d.allowed, c.within & d.within)
         }
-        _ => verdict(at, false, false),
+        _ => testing(at, false, false),
     }
 }

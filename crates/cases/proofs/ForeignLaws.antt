@@ -1,12 +1,12 @@
 -- Foreign keys, tested pair by pair, row by row and key by key. Assumes nothing.
 use mathlib.Core.Path.{_≡_, refl, sym, ap, ap₂, _∙_}
 use mathlib.Core.Bool.{Bool, true, false, _&&_}
-use mathlib.Core.List.{List, [], _∷_, _++_, map, append-assoc}
+use mathlib.Core.List.{List, [], _∷_, _++_, map, append-assoc, append-nil}
 use Prim.Native.Nat.{ℕ, suc, _+_, _<_, _≤_}
 use native.Mathlib.Omega.{arith}
 use lib.IntN.{ℤ}
 use lib.ListN.{length, getD, drop, drop-of-length-le}
-use lib.Seq.{drop-cons, drop-drop, getD-drop, drop-append-seam}
+use lib.Seq.{drop-cons, drop-drop, getD-drop}
 use Rattle.text.specs.Answers.{pack}
 use Rattle.value.specs.Bag.{All}
 use Rattle.value.specs.Value.{Value, valueTest}
@@ -18,12 +18,13 @@ use Rattle.meaning.specs.Valid.{agrees, foreignKeyHolds}
 use Rattle.meaning.proofs.Elements.{all-at}
 use Rattle.language.specs.Legal.{LegalKey, LegalPair, tableAt}
 use Rattle.language.specs.Written.{keyBytes, pairsBytes}
+use Rattle.catalog.specs.Frames.{frameAt}
+use Rattle.catalog.proofs.FrameLaws.{pack-cons, frame-here}
 use Rattle.store.specs.Layout.{cellIn}
 use Rattle.store.specs.Rows.{rowIn, rowsIn}
 use Rattle.store.proofs.RowLaws.{cell-of-row}
-use Rattle.cases.specs.Given.{TablesIn}
+use Rattle.cases.specs.TablesIn.{TablesIn}
 use Rattle.cases.specs.Validity.{Agreed, HasParent, ForeignHeld, ForeignsHeld}
-use Rattle.cases.proofs.OutlineLaws.{pack-cons}
 use Rattle.cases.proofs.RowTests.{all-none, all-step, all-stops, any-none, any-step, any-found}
 
 -- ---- lists at a place
@@ -132,75 +133,70 @@ module _ (bytes : List ℕ) (at count : ℕ) (work : List ℤ) (child i parent :
 
 -- ---- a foreign key
 
--- the fields of a key whose frame stands at a place
-key-fields : (bytes : List ℕ) (at : ℕ) (k : ForeignKey) (rest : List ℕ) → drop at bytes ≡ keyBytes k ++ rest
-    → (getD bytes (at + 1) 0 ≡ k .child) × (getD bytes (at + 2) 0 ≡ k .parent) × (getD bytes (at + 3) 0 ≡ length (k .pairs))
-    × (drop (at + 4) bytes ≡ pairsBytes (k .pairs) ++ rest)
+-- the fields of a key in its frame
+key-fields : (frame : List ℕ) (k : ForeignKey) → frame ≡ keyBytes k
+    → (getD frame 1 0 ≡ k .child) × (getD frame 2 0 ≡ k .parent) × (getD frame 3 0 ≡ length (k .pairs)) × (drop 4 frame ≡ pairsBytes (k .pairs) ++ [])
 unfolding keyBytes
-key-fields bytes at k rest e =
-    (at-place bytes at 1 0 _ e, at-place bytes at 2 0 _ e, at-place bytes at 3 0 _ e, sym (drop-drop 4 at bytes) ∙ ap (drop 4) e)
+key-fields frame k e = rw e (refl, refl, refl, sym (append-nil (pairsBytes (k .pairs))))
 
 -- the first n rows of the child have parents
-pub record ParentsTo (bytes : List ℕ) (at : ℕ) (counts : List ℕ) (work : List ℤ) (n : ℕ) : Type 0 where
-  pub each-row : (F : File) (d : Database) (k : ForeignKey) (rest : List ℕ) → drop at bytes ≡ keyBytes k ++ rest → LegalKey (F .tables) k
-      → TablesIn F d counts work
+pub record ParentsTo (frame counts : List ℕ) (work : List ℤ) (n : ℕ) : Type 0 where
+  pub each-row : (F : File) (d : Database) (k : ForeignKey) → frame ≡ keyBytes k → LegalKey (F .tables) k → TablesIn F d counts work
       → all (λ μ. any (agrees (k .pairs) μ) (getD d (k .parent) [])) (rowsIn work (k .child) (length (tableAt (F .tables) (k .child) .columns)) n) ≡ true
 
-pub parents-none : (bytes : List ℕ) (at : ℕ) (counts : List ℕ) (work : List ℤ) → ParentsTo bytes at counts work 0
-parents-none bytes at counts work =
+pub parents-none : (frame counts : List ℕ) (work : List ℤ) → ParentsTo frame counts work 0
+parents-none frame counts work =
     record {
-      each-row = λ F d k rest e legal s.
+      each-row = λ F d k e legal s.
           all-none work (k .child) (length (tableAt (F .tables) (k .child) .columns)) (λ μ. any (agrees (k .pairs) μ) (getD d (k .parent) []));
     }
 
-module _ (bytes : List ℕ) (at : ℕ) (counts : List ℕ) (work : List ℤ) {child parent count children parents : ℕ}
-    (ec : child ≡ getD bytes (at + 1) 0) (ep : parent ≡ getD bytes (at + 2) 0) (en : count ≡ getD bytes (at + 3) 0)
+module _ (frame counts : List ℕ) (work : List ℤ) {child parent count children parents : ℕ}
+    (ec : child ≡ getD frame 1 0) (ep : parent ≡ getD frame 2 0) (en : count ≡ getD frame 3 0)
     (es : children ≡ getD counts child 0) (eq : parents ≡ getD counts parent 0) where
-  module _ (F : File) (d : Database) (k : ForeignKey) (rest : List ℕ) (e : drop at bytes ≡ keyBytes k ++ rest)
-      (legal : LegalKey (F .tables) k) (s : TablesIn F d counts work) where
+  module _ (F : File) (d : Database) (k : ForeignKey) (e : frame ≡ keyBytes k) (legal : LegalKey (F .tables) k) (s : TablesIn F d counts work) where
     abbrev p : Row → Bool
     p μ = any (agrees (k .pairs) μ) (getD d (k .parent) [])
 
     abbrev w : ℕ
     w = length (tableAt (F .tables) (k .child) .columns)
 
-    row-told : {i : ℕ} {r : Bool} → HasParent bytes (at + 4) count work child i parent parents r → r ≡ p (rowIn work (k .child) w i)
+    row-told : {i : ℕ} {r : Bool} → HasParent frame 4 count work child i parent parents r → r ≡ p (rowIn work (k .child) w i)
     row-told {i} a =
-        let (fc, fp, fn, fb) = key-fields bytes at k rest e in
+        let (fc, fp, fn, fb) = key-fields frame k e in
         let v = length (tableAt (F .tables) (k .parent) .columns) in
         let hp : parents ≡ getD counts (k .parent) 0 = eq ∙ ap (λ n. getD counts n 0) (ep ∙ fp) in
-        a .parent-is (k .pairs) rest fb (sym (en ∙ fn)) w v (legal .fields .pairs)
+        a .parent-is (k .pairs) [] fb (sym (en ∙ fn)) w v (legal .fields .pairs)
         ∙ ap₂ (λ (x : ℕ) (R : List Row). any (agrees (k .pairs) (rowIn work x w i)) R) (ec ∙ fc)
         (ap₂ (λ x n. rowsIn work x v n) (ep ∙ fp) hp ∙ s .table (k .parent) (legal .fields .parent))
 
     children-are : rowsIn work (k .child) w children ≡ getD d (k .child) []
     children-are =
-        let (fc, _, _, _) = key-fields bytes at k rest e in
+        let (fc, _, _, _) = key-fields frame k e in
         ap (rowsIn work (k .child) w) (es ∙ ap (λ n. getD counts n 0) (ec ∙ fc)) ∙ s .table (k .child) (legal .fields .child)
 
-  pub parents-more : {i : ℕ} {r : Bool} → ParentsTo bytes at counts work i → HasParent bytes (at + 4) count work child i parent parents r → r ≡ true
-      → ParentsTo bytes at counts work (i + 1)
+  pub parents-more : {i : ℕ} {r : Bool} → ParentsTo frame counts work i → HasParent frame 4 count work child i parent parents r → r ≡ true
+      → ParentsTo frame counts work (i + 1)
   parents-more {i} n a t = record {
-    each-row = λ F d k rest e legal s.
-        all-step work (k .child) (w F d k rest e legal s) (p F d k rest e legal s) i (n .each-row F d k rest e legal s)
-        (sym (row-told F d k rest e legal s a) ∙ t);
+    each-row = λ F d k e legal s.
+        all-step work (k .child) (w F d k e legal s) (p F d k e legal s) i (n .each-row F d k e legal s) (sym (row-told F d k e legal s a) ∙ t);
   }
 
-  pub parents-stop : {i : ℕ} {r : Bool} → i < children → HasParent bytes (at + 4) count work child i parent parents r → r ≡ false
-      → ForeignHeld bytes at counts work false
+  pub parents-stop : {i : ℕ} {r : Bool} → i < children → HasParent frame 4 count work child i parent parents r → r ≡ false
+      → ForeignHeld frame counts work false
   parents-stop {i} h a f = record {
-    holds = λ F d k rest e legal s.
-        let u = w F d k rest e legal s in
-        let t = p F d k rest e legal s in
-        sym (ap (all t) (sym (children-are F d k rest e legal s)) ∙ all-stops work (k .child) u t children i h (sym (row-told F d k rest e legal s a) ∙ f));
+    holds = λ F d k e legal s.
+        let u = w F d k e legal s in
+        let t = p F d k e legal s in
+        sym (ap (all t) (sym (children-are F d k e legal s)) ∙ all-stops work (k .child) u t children i h (sym (row-told F d k e legal s a) ∙ f));
   }
 
-  pub parents-whole : {i : ℕ} → i ≡ children → ParentsTo bytes at counts work i → ForeignHeld bytes at counts work true
+  pub parents-whole : {i : ℕ} → i ≡ children → ParentsTo frame counts work i → ForeignHeld frame counts work true
   parents-whole {i} q n = record {
-    holds = λ F d k rest e legal s.
-        let u = w F d k rest e legal s in
-        let t = p F d k rest e legal s in
-        sym (ap (all t) (sym (children-are F d k rest e legal s)) ∙ ap (λ m. all t (rowsIn work (k .child) u m)) (sym q) ∙ n .each-row F d k rest e legal s);
+    holds = λ F d k e legal s.
+        let u = w F d k e legal s in
+        let t = p F d k e legal s in
+        sym (ap (all t) (sym (children-are F d k e legal s)) ∙ ap (λ m. all t (rowsIn work (k .child) u m)) (sym q) ∙ n .each-row F d k e legal s);
   }
 
 -- ---- the foreign keys of a file
@@ -221,25 +217,27 @@ module _ (bytes : List ℕ) (at keys : ℕ) (counts : List ℕ) (work : List ℤ
   module _ {next n : ℕ} (a : KeysFrom bytes at keys counts work next n) (h : n < keys) where
     module _ (F : File) (d : Database) (ks : List ForeignKey) (rest : List ℕ) (e : drop at bytes ≡ pack (map keyBytes ks) ++ rest) (l : length ks ≡ keys)
         (legal : All (LegalKey (F .tables)) ks) (s : TablesIn F d counts work) where
-      abbrev frame : List ℕ
-      frame = keyBytes (getD ks n noKey)
+      abbrev own : List ℕ
+      own = keyBytes (getD ks n noKey)
 
       abbrev behind : List ℕ
       behind = pack (map keyBytes (drop (suc n) ks)) ++ rest
 
-      frame-stands : drop next bytes ≡ length frame ∷ (frame ++ behind)
+      frame-stands : drop next bytes ≡ length own ∷ (own ++ behind)
       frame-stands =
           a .rest-of F d ks rest e l legal s .0
           ∙ ap (λ t. pack (map keyBytes t) ++ rest) (drop-cons ks n noKey (omega arith))
-          ∙ ap (λ t. t ++ rest) (pack-cons frame (map keyBytes (drop (suc n) ks)))
-          ∙ ap (λ t. length frame ∷ t) (append-assoc frame (pack (map keyBytes (drop (suc n) ks))) rest)
+          ∙ ap (λ t. t ++ rest) (pack-cons own (map keyBytes (drop (suc n) ks)))
+          ∙ ap (λ t. length own ∷ t) (append-assoc own (pack (map keyBytes (drop (suc n) ks))) rest)
 
-      key-told : {r : Bool} → ForeignHeld bytes (next + 1) counts work r → all (foreignKeyHolds d) ks ≡ (r && all (foreignKeyHolds d) (drop (suc n) ks))
-      key-told {r} f =
-          let k = getD ks n noKey in
+      there : (frameAt bytes next ≡ own) × (drop (next + 1 + length own) bytes ≡ behind)
+      there = frame-here bytes next own behind frame-stands
+
+      key-told : {frame : List ℕ} {r : Bool} → frame ≡ frameAt bytes next → ForeignHeld frame counts work r
+          → all (foreignKeyHolds d) ks ≡ (r && all (foreignKeyHolds d) (drop (suc n) ks))
+      key-told {r = r} q f =
           let ln : n < length ks = omega arith in
-          let fe : drop (next + 1) bytes ≡ frame ++ behind = byte-here bytes next frame-stands .1 in
-          let t : r ≡ foreignKeyHolds d k = f .holds F d k behind fe (all-at legal noKey n ln) s in
+          let t : r ≡ foreignKeyHolds d (getD ks n noKey) = f .holds F d (getD ks n noKey) (q ∙ there .0) (all-at legal noKey n ln) s in
           a .rest-of F d ks rest e l legal s .1
           ∙ ap (all (foreignKeyHolds d)) (drop-cons ks n noKey ln)
           ∙ ap (λ b. b && all (foreignKeyHolds d) (drop (suc n) ks)) (sym t)
@@ -247,26 +245,17 @@ module _ (bytes : List ℕ) (at keys : ℕ) (counts : List ℕ) (work : List ℤ
     pub keys-inside : length bytes ≤ next → ForeignsHeld bytes at keys counts work false
     keys-inside o = record { hold = λ F d ks rest e l legal s. absurd (inside bytes next _ _ (frame-stands F d ks rest e l legal s) o) }
 
-    pub keys-stop : {r : Bool} → ForeignHeld bytes (next + 1) counts work r → r ≡ false → ForeignsHeld bytes at keys counts work false
-    keys-stop f z = record { hold = λ F d ks rest e l legal s. sym (key-told F d ks rest e l legal s f ∙ rw z) }
+    module _ {frame : List ℕ} {r : Bool} (q : frame ≡ frameAt bytes next) (f : ForeignHeld frame counts work r) where
+      pub keys-stop : r ≡ false → ForeignsHeld bytes at keys counts work false
+      keys-stop z = record { hold = λ F d ks rest e l legal s. sym (key-told F d ks rest e l legal s q f ∙ rw z) }
 
-    pub keys-next : {r : Bool} {size : ℕ} → ForeignHeld bytes (next + 1) counts work r → r ≡ true → size ≡ getD bytes next 0
-        → KeysFrom bytes at keys counts work (next + 1 + size) (n + 1)
-    keys-next {r} {size} f z es = record {
-      rest-of = λ F d ks rest e l legal s.
-          let m : n + 1 ≡ suc n = omega arith in
-          let there = frame-stands F d ks rest e l legal s in
-          let fr = frame F d ks rest e l legal s in
-          let bh = behind F d ks rest e l legal s in
-          let fs : size ≡ length fr = es ∙ byte-here bytes next there .0 in
-          rw m (
-            sym (drop-drop size (next + 1) bytes)
-                ∙ ap (drop size) (byte-here bytes next there .1)
-                ∙ ap (λ k. drop k (fr ++ bh)) fs
-                ∙ drop-append-seam fr bh,
-            key-told F d ks rest e l legal s f ∙ rw z,
-          );
-    }
+      pub keys-next : r ≡ true → KeysFrom bytes at keys counts work (next + 1 + length frame) (n + 1)
+      keys-next z = record {
+        rest-of = λ F d ks rest e l legal s.
+            let m : n + 1 ≡ suc n = omega arith in
+            let (fr, bh) = there F d ks rest e l legal s in
+            rw m (ap (λ (x : List ℕ). drop (next + 1 + length x) bytes) (q ∙ fr) ∙ bh, key-told F d ks rest e l legal s q f ∙ rw z);
+      }
 
   pub keys-end : {next n : ℕ} → keys ≤ n → KeysFrom bytes at keys counts work next n → ForeignsHeld bytes at keys counts work true
   keys-end {next} {n} h a = record {

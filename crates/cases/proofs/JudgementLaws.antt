@@ -1,8 +1,8 @@
--- The loop over the views, and the verdict. Assumes nothing.
+-- The loop over the views, and whether a database is a case. Assumes nothing.
 use mathlib.Core.Path.{_≡_, refl, sym, ap, ap₂, _∙_}
 use mathlib.Core.Bool.{Bool, true, false, _||_, cond, true≢false}
 use mathlib.Core.List.{List}
-use Prim.Native.Nat.{ℕ, zero, suc, _+_, _≤_, _<_}
+use Prim.Native.Nat.{ℕ, suc, _+_, _≤_, _<_}
 use native.Mathlib.Omega.{arith}
 use lib.Dec.{ltb, eqb}
 use lib.IntN.{ℤ}
@@ -11,32 +11,33 @@ use lib.Seq.{getD-set-same, getD-set-other}
 use Rattle.value.specs.Bag.{tick}
 use Rattle.value.proofs.Decides.{by-test}
 use Rattle.value.proofs.Bags.{tick-one}
-use Rattle.meaning.specs.Lists.{isPos, any}
-use Rattle.meaning.specs.Syntax.{Table, File, Database}
-use Rattle.meaning.specs.Lists.{Each}
+use Rattle.meaning.specs.Lists.{Each, isPos, any}
+use Rattle.meaning.specs.Syntax.{Table, Goal, File, Database}
 use Rattle.meaning.specs.Rows.{rows}
 use Rattle.meaning.specs.Bounds.{schemas}
 use Rattle.meaning.specs.Valid.{InRange, valid}
 use Rattle.meaning.specs.Cases.{hasRow, someRow, negative, wanted, isCase}
 use Rattle.meaning.proofs.DecidedLists.{each-length}
 use Rattle.meaning.proofs.Relations.{rows-table}
+use Rattle.catalog.specs.Frames.{frameIn}
+use Rattle.catalog.specs.FileIn.{FileIn, goalOf}
+use Rattle.catalog.specs.declared.outline.Outline.{Outline}
+use Rattle.catalog.specs.declared.plan.Goal.{Goal as GoalHere}
+use Rattle.catalog.proofs.FileLaws.{width-is, columns-are}
 use Rattle.store.specs.Rows.{rowsIn}
 use Rattle.store.proofs.RowLaws.{rows-length}
 use Rattle.views.proofs.Copying.{apart-same}
-use Rattle.cases.specs.Given.{Given}
 use Rattle.cases.specs.Needs.{Flag}
 use Rattle.cases.specs.Relations.{columnsOf, AnyRows, Refutes}
 use Rattle.cases.specs.Validity.{Validates}
-use Rattle.cases.specs.Judgement.{SignNoted, RowsNoted, Known, Ready, TablesKept, Evaluates, Verdict, Judges}
-use Rattle.cases.specs.declared.outline.Outline.{Outline}
-use Rattle.cases.proofs.ValidLaws.{table-width}
+use Rattle.cases.specs.Judgement.{SignNoted, RowsNoted, Known, Ready, TablesKept, Evaluates, IsWanted, IsCase}
 use Rattle.cases.proofs.SignLaws.{positive}
 use Rattle.cases.proofs.Turns.{turn-known}
 
 -- ---- notes
 
-module _ {bytes : List ℕ} {at : ℕ} {asked counts refuted : List ℕ} {work : List ℤ} {v : ℕ} where
-  pub sign-unasked : {b : ℕ} → b ≡ getD asked v 0 → (b ≡ 1 → ⊥) → SignNoted bytes at asked counts refuted work v refuted work
+module _ {frame asked counts refuted : List ℕ} {work : List ℤ} {v : ℕ} where
+  pub sign-unasked : {b : ℕ} → b ≡ getD asked v 0 → (b ≡ 1 → ⊥) → SignNoted frame asked counts refuted work v refuted work
   sign-unasked e h = record {
     apart = apart-same v work;
     size = refl;
@@ -44,8 +45,8 @@ module _ {bytes : List ℕ} {at : ℕ} {asked counts refuted : List ℕ} {work :
     noted = λ f l. absurd (h (e ∙ f .on));
   }
 
-  pub sign-noted : {r : Bool} {work′ : List ℤ} {refuted′ : List ℕ} {b : ℕ} → Refutes bytes at counts refuted work v r work′ → b ≡ tick r 0 → refuted′ ≡ set refuted v b
-      → SignNoted bytes at asked counts refuted work v refuted′ work′
+  pub sign-noted : {r : Bool} {work′ : List ℤ} {refuted′ : List ℕ} {b : ℕ} → Refutes frame counts refuted work v r work′ → b ≡ tick r 0 → refuted′ ≡ set refuted v b
+      → SignNoted frame asked counts refuted work v refuted′ work′
   sign-noted {r} {b = b} R q e = record {
     apart = R .apart;
     size = rw e (length-set refuted v b);
@@ -53,8 +54,8 @@ module _ {bytes : List ℕ} {at : ℕ} {asked counts refuted : List ℕ} {work :
     noted = λ f l. (r, R, rw e (getD-set-same refuted v b 0 l) ∙ q ∙ tick-one r);
   }
 
-module _ {bytes : List ℕ} {at : ℕ} {shape needed counts : List ℕ} {work : List ℤ} {v : ℕ} where
-  pub rows-unneeded : {b : ℕ} → b ≡ getD needed v 0 → (b ≡ 1 → ⊥) → RowsNoted bytes at shape needed counts work v counts work
+module _ {frame shape needed counts : List ℕ} {work : List ℤ} {v : ℕ} where
+  pub rows-unneeded : {b : ℕ} → b ≡ getD needed v 0 → (b ≡ 1 → ⊥) → RowsNoted frame shape needed counts work v counts work
   rows-unneeded e h = record {
     apart = apart-same v work;
     size = refl;
@@ -62,8 +63,8 @@ module _ {bytes : List ℕ} {at : ℕ} {shape needed counts : List ℕ} {work : 
     noted = λ f l. absurd (h (e ∙ f .on));
   }
 
-  pub rows-noted : {n : ℕ} {work′ : List ℤ} {counts′ : List ℕ} → AnyRows bytes at shape counts work v n work′ → counts′ ≡ set counts v n
-      → RowsNoted bytes at shape needed counts work v counts′ work′
+  pub rows-noted : {n : ℕ} {work′ : List ℤ} {counts′ : List ℕ} → AnyRows frame shape counts work v n work′ → counts′ ≡ set counts v n
+      → RowsNoted frame shape needed counts work v counts′ work′
   rows-noted {n} {work′} A e = record {
     apart = A .apart;
     size = rw e (length-set counts v n);
@@ -78,19 +79,19 @@ pub record Turned (bytes starts shape needed asked : List ℕ) (o : Outline) (co
   pub first : o .tables ≤ v
   pub kept : TablesKept (o .tables) counts work counts′ work′
   pub refuted-size : length refuted′ ≡ length refuted
-  pub known : {F : File} {d : Database} → Given F bytes starts shape o → Ready F d needed asked counts refuted work
+  pub known : {F : File} {g : Goal} {d : Database} {ends : List ℤ} → FileIn F bytes starts shape ends o → Ready F g d needed asked counts refuted work
       → Known F d needed asked counts′ refuted′ work′ v
 
 kept-same : (tables : ℕ) (counts : List ℕ) (work : List ℤ) → TablesKept tables counts work counts work
 kept-same tables counts work = record { size = refl; table = λ t w n h. refl; counts-size = refl; count = λ t h. refl }
 
 -- the tables are known
-tables-known : {F : File} {d : Database} {bytes starts shape needed asked : List ℕ} {o : Outline} {counts refuted : List ℕ} {work : List ℤ}
-    → Given F bytes starts shape o → Ready F d needed asked counts refuted work → (v : ℕ) → v ≤ length (F .tables) → Known F d needed asked counts refuted work v
-tables-known {F} {d} {counts = counts} {work = work} G R v h = record {
+tables-known : {F : File} {g : Goal} {d : Database} {bytes starts shape needed asked : List ℕ} {ends : List ℤ} {o : Outline} {counts refuted : List ℕ} {work : List ℤ}
+    → FileIn F bytes starts shape ends o → Ready F g d needed asked counts refuted work → (v : ℕ) → v ≤ length (F .tables) → Known F d needed asked counts refuted work v
+tables-known {F} {d = d} {counts = counts} {work = work} G R v h = record {
   rows-known = λ i l f.
       let there : i < length (F .tables) = omega arith in
-      ap (λ w. rowsIn work i w (getD counts i 0)) (table-width F i there) ∙ R .tables .table i there
+      ap (λ w. rowsIn work i w (getD counts i 0)) (sym (width-is G i) ∙ columns-are G i there) ∙ R .tables .table i there
       ∙ sym (rows-table F d i (omega (arith, each-length (R .shaped))));
   signs-known = λ i t l f. absurd (omega arith);
 }
@@ -104,11 +105,11 @@ module _ {bytes starts shape needed asked : List ℕ} {o : Outline} {counts refu
     known = λ G R. tables-known G R (o .tables) (omega (arith, G .tables));
   }
 
-  pub turned-more : {counts₁ refuted₁ : List ℕ} {work₁ : List ℤ} {v at : ℕ} → Turned bytes starts shape needed asked o counts refuted work counts₁ refuted₁ work₁ v
-      → v < o .relations → (v < length starts → at ≡ getD starts v 0 + 1) → {refuted₂ : List ℕ} {work₂ : List ℤ} → SignNoted bytes at asked counts₁ refuted₁ work₁ v refuted₂ work₂
-      → {counts₂ : List ℕ} {work₃ : List ℤ} → RowsNoted bytes at shape needed counts₁ work₂ v counts₂ work₃
+  pub turned-more : {counts₁ refuted₁ : List ℕ} {work₁ : List ℤ} {v : ℕ} {frame : List ℕ} → Turned bytes starts shape needed asked o counts refuted work counts₁ refuted₁ work₁ v
+      → v < o .relations → frame ≡ frameIn bytes starts v → {refuted₂ : List ℕ} {work₂ : List ℤ} → SignNoted frame asked counts₁ refuted₁ work₁ v refuted₂ work₂
+      → {counts₂ : List ℕ} {work₃ : List ℤ} → RowsNoted frame shape needed counts₁ work₂ v counts₂ work₃
       → Turned bytes starts shape needed asked o counts refuted work counts₂ refuted₂ work₃ (v + 1)
-  turned-more {counts₁} {refuted₁} {work₁} {v} {at} T l here {refuted₂} {work₂} S {counts₂} {work₃} N = record {
+  turned-more {v = v} T l here {refuted₂} {work₂} S {counts₂} {work₃} N = record {
     first = omega (arith, T .first);
     kept = record {
       size = N .apart .size ∙ S .apart .size ∙ T .kept .size;
@@ -118,11 +119,10 @@ module _ {bytes starts shape needed asked : List ℕ} {o : Outline} {counts refu
       count = λ t h. N .others t (λ e. omega (arith, T .first)) ∙ T .kept .count t h;
     };
     refuted-size = S .size ∙ T .refuted-size;
-    known = λ {F} {d} G R.
+    known = λ G R.
         let n : v + 1 ≡ suc v = omega arith in
-        let few : v < 16 = omega (arith, G .legal .relationCount, G .relations) in
         rw n (turn-known (G .legal) (R .covers) (R .shaped) G (omega (arith, R .whole, T .kept .size)) (T .kept .counts-size ∙ R .counts-size)
-        (T .refuted-size ∙ R .refuted-size) v at (omega (arith, T .first, G .tables)) (omega (arith, G .relations)) (here (omega (arith, G .starts-size))) (T .known G R) S N);
+        (T .refuted-size ∙ R .refuted-size) v (omega (arith, T .first, G .tables)) (omega (arith, G .relations)) here (T .known G R) S N);
   }
 
   pub turned-all : {counts₁ refuted₁ : List ℕ} {work₁ : List ℤ} {v : ℕ} → Turned bytes starts shape needed asked o counts refuted work counts₁ refuted₁ work₁ v
@@ -130,39 +130,39 @@ module _ {bytes starts shape needed asked : List ℕ} {o : Outline} {counts refu
   turned-all {counts₁} {refuted₁} {work₁} {v} T h = record {
     kept = T .kept;
     refuted-size = T .refuted-size;
-    known = λ {F} {d} G R. let K = T .known G R in record {
+    known = λ G R. let K = T .known G R in record {
       rows-known = λ i l f. K .rows-known i (omega (arith, G .relations)) f;
       signs-known = λ i t l f. K .signs-known i t (omega (arith, G .relations)) f;
     };
   }
 
--- ---- the verdict
+-- ---- what is wanted
 
-module _ {o : Outline} {counts refuted : List ℕ} where
-  pub verdict-sign : o .negative ≡ true → {b : ℕ} → b ≡ getD refuted (o .goal) 0 → Verdict o counts refuted (eqb b 1)
-  verdict-sign n e = record {
+module _ {g : GoalHere} {counts refuted : List ℕ} where
+  pub wanted-sign : g .negative ≡ true → {b : ℕ} → b ≡ getD refuted (g .view) 0 → IsWanted g counts refuted (eqb b 1)
+  wanted-sign n e = record {
     by-rows = λ m. absurd (true≢false (sym n ∙ m));
     by-sign = λ x m q. ap (λ k. eqb k 1) (e ∙ q) ∙ by-test x (λ t. rw t) (λ t. rw t);
   }
 
-  pub verdict-rows : o .negative ≡ false → {b : ℕ} → b ≡ getD counts (o .goal) 0 → Verdict o counts refuted (ltb 0 b)
-  verdict-rows n {b} e = record {
+  pub wanted-rows : g .negative ≡ false → {b : ℕ} → b ≡ getD counts (g .view) 0 → IsWanted g counts refuted (ltb 0 b)
+  wanted-rows n {b} e = record {
     by-rows = λ m. positive b ∙ ap isPos e;
     by-sign = λ x m q. absurd (true≢false (sym m ∙ n));
   }
 
 -- ---- the case
 
-module _ (F : File) (d : Database) where
-  pub no-row : any hasRow d ≡ false → false ≡ isCase F (F .goal) d
+module _ (F : File) (g : Goal) (d : Database) where
+  no-row : any hasRow d ≡ false → false ≡ isCase F g d
   unfolding isCase someRow
   no-row h = rw h (by-test (valid F d) (λ e. rw e) (λ e. rw e))
 
-  pub not-valid : valid F d ≡ false → false ≡ isCase F (F .goal) d
+  not-valid : valid F d ≡ false → false ≡ isCase F g d
   unfolding isCase
   not-valid h = rw h
 
-  pub is-wanted : valid F d ≡ true → any hasRow d ≡ true → {r : Bool} → r ≡ wanted F d (F .goal) → r ≡ isCase F (F .goal) d
+  is-wanted : valid F d ≡ true → any hasRow d ≡ true → {r : Bool} → r ≡ wanted F d g → r ≡ isCase F g d
   unfolding isCase someRow
   is-wanted v h e = rw (v, h) e
 
@@ -171,48 +171,44 @@ filled-rows : {ts : List Table} {d : Database} → Each InRange ts d → any has
 filled-rows Each.nil = refl
 filled-rows (Each.cons p ps) = ap₂ _||_ (ap isPos (p .rows)) (filled-rows ps)
 
-module _ {bytes starts shape needed asked : List ℕ} {o : Outline} {counts refuted : List ℕ} {work : List ℤ} where
+module _ {bytes starts shape needed asked : List ℕ} {o : Outline} {g : GoalHere} {counts refuted : List ℕ} {work : List ℤ} where
   -- a database with no rows, or one that is not valid, is no case
-  pub judges-empty : o .filled ≡ false → Judges bytes starts shape needed asked o counts refuted work false counts refuted work
-  judges-empty h = record {
+  pub case-empty : o .filled ≡ false → IsCase bytes starts shape needed asked o g counts refuted work false counts refuted work
+  case-empty h = record {
     kept = kept-same (o .tables) counts work;
     refuted-size = refl;
-    case = λ F d G R. empty F d G R;
+    case = λ {F} {d} G R. no-row F (goalOf g) d (filled-rows (R .shaped) ∙ sym (G .filled) ∙ h);
   }
-    where
-      empty : (F : File) (d : Database) → Given F bytes starts shape o → Ready F d needed asked counts refuted work → false ≡ isCase F (F .goal) d
-      empty F d G R = no-row F d (filled-rows (R .shaped) ∙ sym (G .filled) ∙ h)
 
-  pub judges-invalid : {b : Bool} → Validates bytes shape o counts work b → b ≡ false → Judges bytes starts shape needed asked o counts refuted work false counts refuted work
-  judges-invalid ok h = record {
+  pub case-invalid : {b : Bool} → Validates bytes shape o counts work b → b ≡ false → IsCase bytes starts shape needed asked o g counts refuted work false counts refuted work
+  case-invalid ok h = record {
     kept = kept-same (o .tables) counts work;
     refuted-size = refl;
-    case = λ F d G R. not-valid F d (sym (ok .is-valid F d starts G (R .shaped) (R .tables)) ∙ h);
+    case = λ {F} {d} G R. not-valid F (goalOf g) d (sym (ok .is-valid G (R .shaped) (R .tables)) ∙ h);
   }
 
-  pub judges-valid : {b r : Bool} {counts′ refuted′ : List ℕ} {work′ : List ℤ} → o .filled ≡ true → Validates bytes shape o counts work b → b ≡ true
-      → Evaluates bytes starts shape needed asked o counts refuted work counts′ refuted′ work′ → Verdict o counts′ refuted′ r
-      → Judges bytes starts shape needed asked o counts refuted work r counts′ refuted′ work′
-  judges-valid {r = r} {counts′} {refuted′} {work′} f ok h E X = record {
+  pub case-valid : {b r : Bool} {counts′ refuted′ : List ℕ} {work′ : List ℤ} → o .filled ≡ true → Validates bytes shape o counts work b → b ≡ true
+      → Evaluates bytes starts shape needed asked o counts refuted work counts′ refuted′ work′ → IsWanted g counts′ refuted′ r
+      → IsCase bytes starts shape needed asked o g counts refuted work r counts′ refuted′ work′
+  case-valid {r = r} {counts′} {refuted′} {work′} f ok h E X = record {
     kept = E .kept;
     refuted-size = E .refuted-size;
-    case = λ F d G R.
-        is-wanted F d (sym (ok .is-valid F d starts G (R .shaped) (R .tables)) ∙ h) (filled-rows (R .shaped) ∙ sym (G .filled) ∙ f)
-        (wanted-is F d G R (E .known G R));
+    case = λ {F} {d} G R.
+        is-wanted F (goalOf g) d (sym (ok .is-valid G (R .shaped) (R .tables)) ∙ h) (filled-rows (R .shaped) ∙ sym (G .filled) ∙ f)
+        (wanted-is R (E .known G R));
   }
     where
-      wanted-is : (F : File) (d : Database) → Given F bytes starts shape o → Ready F d needed asked counts refuted work
-          → Known F d needed asked counts′ refuted′ work′ (length (F .tables) + length (F .views)) → r ≡ wanted F d (F .goal)
-      wanted-is F d G R K =
-          let v = F .goal .view in
-          let first = G .legal .goal .behind in
-          let last = G .legal .goal .before in
-          let goal : o .goal ≡ v = G .goal in
+      wanted-is : {F : File} {d : Database} → Ready F (goalOf g) d needed asked counts refuted work
+          → Known F d needed asked counts′ refuted′ work′ (length (F .tables) + length (F .views)) → r ≡ wanted F d (goalOf g)
+      wanted-is {F} {d} R K =
+          let v = g .view in
+          let first = R .covers .view .behind in
+          let last = R .covers .view .before in
           let A = negative F d (suc v) v in
           let B = hasRow (rows F d v) in
-          by-test (F .goal .negative)
+          by-test (g .negative)
           (λ e. let flag : Flag asked v = rw e at (R .covers .goal) in
-          X .by-sign A (G .negative ∙ e) (ap (λ i. getD refuted′ i 0) goal ∙ K .signs-known v first last flag) ∙ sym (ap (λ b. cond b A B) e))
+          X .by-sign A e (K .signs-known v first last flag) ∙ sym (ap (λ b. cond b A B) e))
           (λ e. let flag : Flag needed v = rw e at (R .covers .goal) in
           let size : getD counts′ v 0 ≡ length (rows F d v) = sym (rows-length work′ v (columnsOf (schemas F) v) (getD counts′ v 0)) ∙ ap length (K .rows-known v last flag) in
-          X .by-rows (G .negative ∙ e) ∙ ap isPos (ap (λ i. getD counts′ i 0) goal ∙ size) ∙ sym (ap (λ b. cond b A B) e))
+          X .by-rows e ∙ ap isPos size ∙ sym (ap (λ b. cond b A B) e))

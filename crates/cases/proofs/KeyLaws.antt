@@ -18,11 +18,11 @@ use Rattle.catalog.specs.Arrays.{widthAt, maskAt}
 use Rattle.language.specs.Frames.{noTable}
 use Rattle.language.specs.Legal.{tableAt}
 use Rattle.language.specs.Written.{maskOf}
-use Rattle.checker.proofs.PairLaws.{bit-first, bits-after}
+use Rattle.catalog.proofs.TableLaws.{bit-first, bits-after}
 use Rattle.store.specs.Layout.{cellIn}
 use Rattle.store.specs.Rows.{rowIn, rowsIn}
 use Rattle.store.proofs.RowLaws.{row-length, cell-of-row}
-use Rattle.cases.specs.Given.{TablesIn}
+use Rattle.cases.specs.TablesIn.{TablesIn}
 use Rattle.cases.specs.Validity.{Differs, DiffersFromEarlier, KeyHeld, KeysHeld}
 use Rattle.cases.proofs.RowTests.{all-none, all-step, all-stops, pairwise-none, pairwise-step, pairwise-stops, each-holds, each-stops}
 

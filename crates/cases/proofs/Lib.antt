@@ -1,6 +1,6 @@
 -- The laws, lowest first.
--- the outline of a plan, and the relations that its goal depends on
-pub mod OutlineLaws
+-- the kinds of views, and the relations that a goal depends on
+pub mod ViewKinds
 pub mod FlagLaws
 pub mod NeedLaws
 -- primary and foreign keys
@@ -9,7 +9,6 @@ pub mod KeyLaws
 pub mod ForeignLaws
 pub mod ValidLaws
 -- one view
-pub mod FrameBytes
 pub mod ViewLaws
 pub mod SignLaws
 -- the file, and its views in turn

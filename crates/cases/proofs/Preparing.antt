@@ -3,31 +3,31 @@ use mathlib.Core.Path.{_≡_, _∙_}
 use mathlib.Core.Bool.{Bool, true, false}
 use mathlib.Core.List.{List}
 use mathlib.Core.Option.{some}
-use Prim.Native.Nat.{ℕ, _+_, _≤_, _<_}
+use Prim.Native.Nat.{ℕ, _<_}
 use native.Mathlib.Omega.{arith}
 use lib.IntN.{ℤ}
 use lib.ListN.{length, getD, replicate, getD-replicate}
 use Rattle.value.specs.Bag.{All}
 use Rattle.value.proofs.Values.{all-map}
-use Rattle.meaning.specs.Syntax.{View, File, Database}
+use Rattle.meaning.specs.Syntax.{View, Goal, File, Database}
 use Rattle.meaning.specs.Algebra.{query}
 use Rattle.meaning.specs.Bounds.{names}
 use Rattle.meaning.proofs.Relations.{query-split}
 use Rattle.language.specs.Legal.{Legal, tableAt}
-use Rattle.store.specs.Rows.{rowsIn}
-use Rattle.cases.specs.Given.{Given, TablesIn, TablesCounted}
-use Rattle.cases.specs.Needs.{Flag, Asks, Wants, Covers}
+use Rattle.catalog.specs.FileIn.{FileIn, TablesCounted}
+use Rattle.catalog.specs.declared.outline.Outline.{Outline}
+use Rattle.catalog.proofs.FileLaws.{rows-are}
+use Rattle.cases.specs.TablesIn.{TablesIn}
+use Rattle.cases.specs.Needs.{Flag, Asks, Wants, GoalIn, Covers}
 use Rattle.cases.specs.Judgement.{TablesKept}
-use Rattle.cases.specs.declared.outline.Outline.{Outline}
-use Rattle.cases.proofs.OutlineLaws.{bound-is}
 use Rattle.cases.proofs.SignLaws.{names-before}
 use Rattle.cases.proofs.FileLaws.{view-legal, before-length}
 
 -- ---- numbers of rows
 
-pub counts-are : {F : File} {bytes starts shape : List ℕ} {o : Outline} {counts counts′ : List ℕ} → Given F bytes starts shape o
+pub counts-are : {F : File} {bytes starts shape : List ℕ} {ends : List ℤ} {o : Outline} {counts counts′ : List ℕ} → FileIn F bytes starts shape ends o
     → TablesCounted shape (o .tables) counts counts′ → length counts ≡ 16 → (t : ℕ) → t < length (F .tables) → getD counts′ t 0 ≡ tableAt (F .tables) t .rows
-counts-are {F} G c s t h = c .counted t (omega (arith, G .tables)) (omega (arith, G .legal .relationCount)) ∙ G .bounds t ∙ bound-is F t h
+counts-are {F} G c s t h = c .counted t (omega (arith, G .tables)) (omega (arith, G .legal .relationCount)) ∙ rows-are G t h
 
 -- the tables stay where they stand
 pub tables-kept : {F : File} {d : Database} {tables : ℕ} {counts counts′ : List ℕ} {work work′ : List ℤ} → tables ≡ length (F .tables)
@@ -43,12 +43,12 @@ one : (i : ℕ) → i < 16 → Flag (replicate 16 1) i
 one i h = record { on = getD-replicate 16 i 1 0 h }
 
 -- flags of all relations cover what a goal depends on
-pub all-covers : {F : File} → Legal F → Covers F (replicate 16 1) (replicate 16 1)
-all-covers {F} L = record { goal = goal (F .goal .negative); rows = λ v q e f. named v q e; signs = λ v q e f. asks q (named v q e) }
+pub all-covers : {F : File} → Legal F → (g : Goal) → GoalIn F g → Covers F g (replicate 16 1) (replicate 16 1)
+all-covers {F} L g W = record { view = W; goal = goal (g .negative); rows = λ v q e f. named v q e; signs = λ v q e f. asks q (named v q e) }
   where
-    goal : (b : Bool) → Wants (replicate 16 1) (replicate 16 1) b (F .goal .view)
-    goal true = one (F .goal .view) (omega (arith, L .goal .before, L .relationCount))
-    goal false = one (F .goal .view) (omega (arith, L .goal .before, L .relationCount))
+    goal : (b : Bool) → Wants (replicate 16 1) (replicate 16 1) b (g .view)
+    goal true = one (g .view) (omega (arith, W .before, L .relationCount))
+    goal false = one (g .view) (omega (arith, W .before, L .relationCount))
 
     named : (v : ℕ) (q : View) → query (length (F .tables)) F v ≡ some q → All (Flag (replicate 16 1)) (names q)
     named v q e =

@@ -2,17 +2,17 @@
 use mathlib.Core.Path.{_≡_, sym, ap, subst, _∙_}
 use mathlib.Core.Logic.{⊎-elim}
 use mathlib.Core.Bool.{Bool, cond}
-use mathlib.Core.List.{List, _++_}
+use mathlib.Core.List.{List}
 use mathlib.Core.Option.{some}
 use Prim.Native.Nat.{ℕ, suc, _+_, _-_, _≤_, _<_}
 use native.Mathlib.Nat.{eq-or-lt-of-le, le-of-suc-le-suc}
 use native.Mathlib.Omega.{arith}
 use lib.IntN.{ℤ}
-use lib.ListN.{length, getD, drop, take}
+use lib.ListN.{length, getD, take}
 use borrow.Author.Tests.{lt-ltb, le-ltb}
 use Rattle.value.specs.Bag.{All}
 use Rattle.value.proofs.Values.{all-map}
-use Rattle.meaning.specs.Syntax.{View, Row, File, Database}
+use Rattle.meaning.specs.Syntax.{View, Row, Goal, File, Database}
 use Rattle.meaning.specs.Rows.{rows}
 use Rattle.meaning.specs.Algebra.{query, below}
 use Rattle.meaning.specs.Bounds.{schema, schemas, names}
@@ -29,14 +29,16 @@ use Rattle.language.proofs.LegalAccepted.{legal-wellFormed}
 use Rattle.language.specs.Legal.{Legal}
 use Rattle.language.specs.Written.{viewBytes}
 use Rattle.catalog.specs.Arrays.{widthAt}
+use Rattle.catalog.specs.Frames.{frameIn}
+use Rattle.catalog.specs.FileIn.{FileIn}
+use Rattle.catalog.specs.declared.outline.Outline.{Outline}
+use Rattle.catalog.proofs.FileLaws.{width-is}
 use Rattle.store.specs.Layout.{area}
 use Rattle.store.specs.Rows.{rowsIn}
-use Rattle.cases.specs.Given.{Given}
 use Rattle.cases.specs.Needs.{Flag, Asks, Covers}
-use Rattle.cases.specs.Relations.{columnsOf, Stands, SignStands}
+use Rattle.cases.specs.Relations.{columnsOf, OperandsIn, SignsIn}
 use Rattle.cases.specs.Judgement.{SignNoted, RowsNoted, Known}
-use Rattle.cases.specs.declared.outline.Outline.{Outline}
-use Rattle.cases.proofs.SignLaws.{names-before, stands-kept}
+use Rattle.cases.proofs.SignLaws.{names-before, operands-kept}
 use Rattle.cases.proofs.FileLaws.{relation-small, view-legal, before-length, before-schema, own-schema}
 
 -- relation v, behind the tables, is a view
@@ -46,7 +48,7 @@ view-there F v h l =
     let (q, e) = getElem-some (F .views) (v - n) (omega arith) in
     (q, rw (le-ltb v n h) e)
 
-module _ {F : File} {d : Database} {needed asked : List ℕ} (L : Legal F) (C : Covers F needed asked) (shaped : Shaped F d) where
+module _ {F : File} {g : Goal} {d : Database} {needed asked : List ℕ} (L : Legal F) (C : Covers F g needed asked) (shaped : Shaped F d) where
   abbrev n : ℕ
   n = length (F .tables)
 
@@ -67,9 +69,9 @@ module _ {F : File} {d : Database} {needed asked : List ℕ} (L : Legal F) (C : 
   in-d v {q} e = subst (λ k. query k F v ≡ some q) (sym (each-length shaped)) e
 
   -- the relations that a view names, where their rows are needed
-  named-stand : {counts refuted : List ℕ} {work : List ℤ} (v : ℕ) (q : View) (e : query n F v ≡ some q) → v < n + length (F .views) → area ≤ length work
-      → Known F d needed asked counts refuted work v → All (Flag needed) (names q) → Stands n (take v (schemas F)) (M v) counts work v q
-  named-stand {counts} {refuted} {work} v q e l whole K flags =
+  operands-in : {counts refuted : List ℕ} {work : List ℤ} (v : ℕ) (q : View) (e : query n F v ≡ some q) → v < n + length (F .views) → area ≤ length work
+      → Known F d needed asked counts refuted work v → All (Flag needed) (names q) → OperandsIn n (take v (schemas F)) (M v) counts work v q
+  operands-in {counts} {refuted} {work} v q e l whole K flags =
       let legal = view-legal L v q e in
       let place = before-length L v q e in
       let below-v : All (λ i. i < v) (names q) = all-map (λ i h. omega arith) (names-before q legal) in
@@ -86,11 +88,11 @@ module _ {F : File} {d : Database} {needed asked : List ℕ} (L : Legal F) (C : 
       }
 
   -- what tells whether a view is negative, where it is asked
-  sign-stands : {counts refuted : List ℕ} {work : List ℤ} (v : ℕ) (q : View) (e : query n F v ≡ some q) → v < n + length (F .views) → area ≤ length work
-      → Known F d needed asked counts refuted work v → Asks needed asked q → SignStands n (take v (schemas F)) (M v) neg counts refuted work v q
-  sign-stands v (View.basic fs w es) e l whole K flags = named-stand v (View.basic fs w es) e l whole K flags
-  sign-stands v (View.grouped fs w gs h es) e l whole K flags = named-stand v (View.grouped fs w gs h es) e l whole K flags
-  sign-stands v (View.set op i j) e l whole K (fi, fj) =
+  signs-in : {counts refuted : List ℕ} {work : List ℤ} (v : ℕ) (q : View) (e : query n F v ≡ some q) → v < n + length (F .views) → area ≤ length work
+      → Known F d needed asked counts refuted work v → Asks needed asked q → SignsIn n (take v (schemas F)) (M v) neg counts refuted work v q
+  signs-in v (View.basic fs w es) e l whole K flags = operands-in v (View.basic fs w es) e l whole K flags
+  signs-in v (View.grouped fs w gs h es) e l whole K flags = operands-in v (View.grouped fs w gs h es) e l whole K flags
+  signs-in v (View.set op i j) e l whole K (fi, fj) =
       let legal = view-legal L v (View.set op i j) e .fields in
       let place = before-length L v (View.set op i j) e in (
         record { told = K .signs-known i (legal .left .behind) (omega (arith, legal .left .before)) fi },
@@ -99,34 +101,32 @@ module _ {F : File} {d : Database} {needed asked : List ℕ} (L : Legal F) (C : 
 
   -- ---- one turn
 
-  module _ {bytes starts shape : List ℕ} {o : Outline} (G : Given F bytes starts shape o) {counts refuted : List ℕ} {work : List ℤ} (whole : area ≤ length work)
-      (counts-size : length counts ≡ 16) (refuted-size : length refuted ≡ 16) (v at : ℕ) (first : n ≤ v) (last : v < n + length (F .views))
-      (here : at ≡ getD starts v 0 + 1) (K : Known F d needed asked counts refuted work v)
-      {counts′ refuted′ : List ℕ} {work₁ work₂ : List ℤ} (S : SignNoted bytes at asked counts refuted work v refuted′ work₁)
-      (R : RowsNoted bytes at shape needed counts work₁ v counts′ work₂) where
+  module _ {bytes starts shape : List ℕ} {ends : List ℤ} {o : Outline} (G : FileIn F bytes starts shape ends o) {counts refuted : List ℕ} {work : List ℤ}
+      (whole : area ≤ length work) (counts-size : length counts ≡ 16) (refuted-size : length refuted ≡ 16) (v : ℕ) (first : n ≤ v)
+      (last : v < n + length (F .views)) {frame : List ℕ} (here : frame ≡ frameIn bytes starts v) (K : Known F d needed asked counts refuted work v)
+      {counts′ refuted′ : List ℕ} {work₁ work₂ : List ℤ} (S : SignNoted frame asked counts refuted work v refuted′ work₁)
+      (R : RowsNoted frame shape needed counts work₁ v counts′ work₂) where
     small : v < 16
     small = omega (arith, L .relationCount)
 
-    frame : (q : View) → query n F v ≡ some q → (rest : List ℕ) × (drop at bytes ≡ viewBytes q ++ rest)
-    frame q e = let (rest, p) = G .views v q e in (rest, ap (λ k. drop k bytes) here ∙ p)
+    own-frame : (q : View) → query n F v ≡ some q → frame ≡ viewBytes q
+    own-frame q e = here ∙ G .views v q e
 
     own-sign : Flag asked v → getD refuted′ v 0 ≡ cond (neg v) 1 0
     own-sign f =
         let (q, e) = view-there F v first last in
-        let (rest, p) = frame q e in
         let (r, T, noted) = S .noted f (omega (arith, small)) in
-        let s = sign-stands v q e last whole K (C .signs v q e f) in
-        noted ∙ ap (λ b. cond b 1 0) (T .refutes q rest p n (take v (schemas F)) (M v) neg s ∙ sym (negative-view F d in-order v q (in-d v e)))
+        let s = signs-in v q e last whole K (C .signs v q e f) in
+        noted ∙ ap (λ b. cond b 1 0) (T .refutes q (own-frame q e) n (take v (schemas F)) (M v) neg s ∙ sym (negative-view F d in-order v q (in-d v e)))
 
     own-rows : Flag needed v → rowsIn work₂ v (columnsOf (schemas F) v) (getD counts′ v 0) ≡ rows F d v
     own-rows f =
         let (q, e) = view-there F v first last in
-        let (rest, p) = frame q e in
-        let s = stands-kept q (S .apart) (named-stand v q e last whole K (C .rows v q e f)) in
+        let s = operands-kept q (S .apart) (operands-in v q e last whole K (C .rows v q e f)) in
         let widths : (i : ℕ) → i < v → widthAt shape i ≡ columnsOf (take v (schemas F)) i =
-        λ i h. G .widths i ∙ sym (ap (λ t. length (t .ranges)) (before-schema L v q e i h)) in
+        λ i h. width-is G i ∙ sym (ap (λ t. length (t .ranges)) (before-schema L v q e i h)) in
         ap (λ t. rowsIn work₂ v (length (t .ranges)) (getD counts′ v 0)) (sym (own-schema L v q e))
-        ∙ R .noted f (omega (arith, small)) .rows q rest p s widths ∙ sym (rows-view F d v q (in-d v e))
+        ∙ R .noted f (omega (arith, small)) .rows q (own-frame q e) s widths ∙ sym (rows-view F d v q (in-d v e))
 
     rows-kept : (i w k : ℕ) → (i ≡ v → ⊥) → rowsIn work₂ i w k ≡ rowsIn work i w k
     rows-kept i w k h = R .apart .others i w k h ∙ S .apart .others i w k h

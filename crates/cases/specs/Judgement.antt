@@ -1,41 +1,41 @@
 -- The views of a file one after the other, and whether a database is a case. Assumes nothing: these are definitions.
 use mathlib.Core.Path.{_≡_}
 use mathlib.Core.Bool.{Bool, true, false, cond}
-use mathlib.Core.List.{List, _++_}
+use mathlib.Core.List.{List}
 use Prim.Native.Nat.{ℕ, suc, _+_, _≤_, _<_}
 use lib.IntN.{ℤ}
-use lib.ListN.{length, getD, drop}
+use lib.ListN.{length, getD}
 use Rattle.meaning.specs.Lists.{isPos}
-use Rattle.meaning.specs.Syntax.{View, Row, File, Database}
-use Rattle.meaning.specs.Rows.{rowsOf, rows}
-use Rattle.meaning.specs.Bounds.{Schema, schema, schemas, viewSchema}
+use Rattle.meaning.specs.Syntax.{Goal, File, Database}
+use Rattle.meaning.specs.Rows.{rows}
+use Rattle.meaning.specs.Bounds.{schemas}
 use Rattle.meaning.specs.Valid.{Shaped}
-use Rattle.meaning.specs.Cases.{refuted as refutedB, negative, isCase}
-use Rattle.catalog.specs.Arrays.{widthAt}
-use Rattle.language.specs.Written.{viewBytes}
+use Rattle.meaning.specs.Cases.{negative, isCase}
+use Rattle.catalog.specs.FileIn.{FileIn, goalOf}
+use Rattle.catalog.specs.declared.outline.Outline.{Outline}
+use Rattle.catalog.specs.declared.plan.Goal.{Goal as GoalHere}
 use Rattle.store.specs.Layout.{area}
 use Rattle.store.specs.Rows.{rowsIn}
 use Rattle.views.specs.Copies.{Apart}
-use Rattle.cases.specs.Given.{Given, TablesIn}
+use Rattle.cases.specs.TablesIn.{TablesIn}
 use Rattle.cases.specs.Needs.{Flag, Covers}
 use Rattle.cases.specs.Relations.{columnsOf, AnyRows, Refutes}
-use Rattle.cases.specs.declared.outline.Outline.{Outline}
 
 -- ---- one view
 
 -- where its sign is asked it is noted; what belongs to other relations stays
-pub record SignNoted (bytes : List ℕ) (at : ℕ) (asked counts refuted : List ℕ) (work : List ℤ) (v : ℕ) (refuted′ : List ℕ) (work′ : List ℤ) : Type 0 where
+pub record SignNoted (frame asked counts refuted : List ℕ) (work : List ℤ) (v : ℕ) (refuted′ : List ℕ) (work′ : List ℤ) : Type 0 where
   pub apart : Apart v work work′
   pub size : length refuted′ ≡ length refuted
   pub others : (i : ℕ) → (i ≡ v → ⊥) → getD refuted′ i 0 ≡ getD refuted i 0
-  pub noted : Flag asked v → v < length refuted → (r : Bool) × Refutes bytes at counts refuted work v r work′ × (getD refuted′ v 0 ≡ cond r 1 0)
+  pub noted : Flag asked v → v < length refuted → (r : Bool) × Refutes frame counts refuted work v r work′ × (getD refuted′ v 0 ≡ cond r 1 0)
 
 -- where its rows are needed they are worked out; what belongs to other relations stays
-pub record RowsNoted (bytes : List ℕ) (at : ℕ) (shape needed counts : List ℕ) (work : List ℤ) (v : ℕ) (counts′ : List ℕ) (work′ : List ℤ) : Type 0 where
+pub record RowsNoted (frame shape needed counts : List ℕ) (work : List ℤ) (v : ℕ) (counts′ : List ℕ) (work′ : List ℤ) : Type 0 where
   pub apart : Apart v work work′
   pub size : length counts′ ≡ length counts
   pub others : (i : ℕ) → (i ≡ v → ⊥) → getD counts′ i 0 ≡ getD counts i 0
-  pub noted : Flag needed v → v < length counts → AnyRows bytes at shape counts work v (getD counts′ v 0) work′
+  pub noted : Flag needed v → v < length counts → AnyRows frame shape counts work v (getD counts′ v 0) work′
 
 -- ---- all views
 
@@ -45,8 +45,8 @@ pub record Known (F : File) (d : Database) (needed asked counts refuted : List �
   pub signs-known : (i : ℕ) → length (F .tables) ≤ i → i < v → Flag asked i → getD refuted i 0 ≡ cond (negative F d (suc i) i) 1 0
 
 -- what a database's evaluation rests on
-pub record Ready (F : File) (d : Database) (needed asked counts refuted : List ℕ) (work : List ℤ) : Type 0 where
-  pub covers : Covers F needed asked
+pub record Ready (F : File) (g : Goal) (d : Database) (needed asked counts refuted : List ℕ) (work : List ℤ) : Type 0 where
+  pub covers : Covers F g needed asked
   pub shaped : Shaped F d
   pub tables : TablesIn F d counts work
   pub whole : area ≤ length work
@@ -63,17 +63,18 @@ pub record TablesKept (tables : ℕ) (counts : List ℕ) (work : List ℤ) (coun
 pub record Evaluates (bytes starts shape needed asked : List ℕ) (o : Outline) (counts refuted : List ℕ) (work : List ℤ) (counts′ refuted′ : List ℕ) (work′ : List ℤ) : Type 0 where
   pub kept : TablesKept (o .tables) counts work counts′ work′
   pub refuted-size : length refuted′ ≡ length refuted
-  pub known : {F : File} {d : Database} → Given F bytes starts shape o → Ready F d needed asked counts refuted work
+  pub known : {F : File} {g : Goal} {d : Database} {ends : List ℤ} → FileIn F bytes starts shape ends o → Ready F g d needed asked counts refuted work
       → Known F d needed asked counts′ refuted′ work′ (length (F .tables) + length (F .views))
 
 -- ---- the case
 
-pub record Verdict (o : Outline) (counts refuted : List ℕ) (r : Bool) : Type 0 where
-  pub by-rows : o .negative ≡ false → r ≡ isPos (getD counts (o .goal) 0)
-  pub by-sign : (b : Bool) → o .negative ≡ true → getD refuted (o .goal) 0 ≡ cond b 1 0 → r ≡ b
+pub record IsWanted (g : GoalHere) (counts refuted : List ℕ) (r : Bool) : Type 0 where
+  pub by-rows : g .negative ≡ false → r ≡ isPos (getD counts (g .view) 0)
+  pub by-sign : (b : Bool) → g .negative ≡ true → getD refuted (g .view) 0 ≡ cond b 1 0 → r ≡ b
 
 -- of every legal file and every database of its row counts and value ranges
-pub record Judges (bytes starts shape needed asked : List ℕ) (o : Outline) (counts refuted : List ℕ) (work : List ℤ) (r : Bool) (counts′ refuted′ : List ℕ) (work′ : List ℤ) : Type 0 where
+pub record IsCase (bytes starts shape needed asked : List ℕ) (o : Outline) (g : GoalHere) (counts refuted : List ℕ) (work : List ℤ) (r : Bool) (counts′ refuted′ : List ℕ) (work′ : List ℤ) : Type 0 where
   pub kept : TablesKept (o .tables) counts work counts′ work′
   pub refuted-size : length refuted′ ≡ length refuted
-  pub case : (F : File) (d : Database) → Given F bytes starts shape o → Ready F d needed asked counts refuted work → r ≡ isCase F (F .goal) d
+  pub case : {F : File} {d : Database} {ends : List ℤ} → FileIn F bytes starts shape ends o → Ready F (goalOf g) d needed asked counts refuted work
+      → r ≡ isCase F (goalOf g) d

@@ -1,5 +1,5 @@
 -- What the functions on cases are given, and what they give.
-pub mod Given
+pub mod TablesIn
 pub mod Validity
 pub mod Needs
 pub mod Relations

@@ -1,21 +1,22 @@
 -- What the tests of keys give. Assumes nothing: these are definitions.
 use mathlib.Core.Path.{_≡_}
-use mathlib.Core.Bool.{Bool, _&&_}
-use mathlib.Core.List.{List, [], _∷_, _++_, map}
+use mathlib.Core.Bool.{Bool}
+use mathlib.Core.List.{List, _++_, map}
 use Prim.Native.Nat.{ℕ, _<_}
 use lib.IntN.{ℤ}
-use lib.ListN.{length, getD, drop}
+use lib.ListN.{length, drop}
 use Rattle.text.specs.Answers.{pack}
 use Rattle.value.specs.Bag.{All}
-use Rattle.meaning.specs.Lists.{all, any, pairwise, each, joined}
+use Rattle.meaning.specs.Lists.{all, any, each}
 use Rattle.meaning.specs.Syntax.{Table, Pair, ForeignKey, File, Database}
 use Rattle.meaning.specs.Valid.{Shaped, differ, keyHolds, agrees, foreignKeyHolds, valid}
-use Rattle.catalog.specs.Arrays.{widthAt, maskAt}
 use Rattle.language.specs.Legal.{LegalKey, LegalPair, tableAt}
 use Rattle.language.specs.Written.{maskOf, pairsBytes, keyBytes}
+use Rattle.catalog.specs.Arrays.{widthAt, maskAt}
+use Rattle.catalog.specs.FileIn.{FileIn}
+use Rattle.catalog.specs.declared.outline.Outline.{Outline}
 use Rattle.store.specs.Rows.{rowIn, rowsIn}
-use Rattle.cases.specs.Given.{Given, TablesIn}
-use Rattle.cases.specs.declared.outline.Outline.{Outline}
+use Rattle.cases.specs.TablesIn.{TablesIn}
 
 -- ---- primary keys: of every key that the mask says
 
@@ -47,9 +48,9 @@ pub record HasParent (bytes : List ℕ) (at count : ℕ) (work : List ℤ) (chil
   pub parent-is : (ps : List Pair) (rest : List ℕ) → drop at bytes ≡ pairsBytes ps ++ rest → length ps ≡ count → (c p : ℕ) → All (LegalPair c p) ps
       → r ≡ any (agrees ps (rowIn work child c i)) (rowsIn work parent p rows)
 
-pub record ForeignHeld (bytes : List ℕ) (at : ℕ) (counts : List ℕ) (work : List ℤ) (r : Bool) : Type 0 where
-  pub holds : (F : File) (d : Database) (k : ForeignKey) (rest : List ℕ) → drop at bytes ≡ keyBytes k ++ rest → LegalKey (F .tables) k
-      → TablesIn F d counts work → r ≡ foreignKeyHolds d k
+pub record ForeignHeld (frame counts : List ℕ) (work : List ℤ) (r : Bool) : Type 0 where
+  pub holds : (F : File) (d : Database) (k : ForeignKey) → frame ≡ keyBytes k → LegalKey (F .tables) k → TablesIn F d counts work
+      → r ≡ foreignKeyHolds d k
 
 pub record ForeignsHeld (bytes : List ℕ) (at keys : ℕ) (counts : List ℕ) (work : List ℤ) (r : Bool) : Type 0 where
   pub hold : (F : File) (d : Database) (ks : List ForeignKey) (rest : List ℕ) → drop at bytes ≡ pack (map keyBytes ks) ++ rest → length ks ≡ keys
@@ -58,4 +59,5 @@ pub record ForeignsHeld (bytes : List ℕ) (at keys : ℕ) (counts : List ℕ) (
 -- ---- the whole
 
 pub record Validates (bytes shape : List ℕ) (o : Outline) (counts : List ℕ) (work : List ℤ) (r : Bool) : Type 0 where
-  pub is-valid : (F : File) (d : Database) (starts : List ℕ) → Given F bytes starts shape o → Shaped F d → TablesIn F d counts work → r ≡ valid F d
+  pub is-valid : {F : File} {d : Database} {starts : List ℕ} {ends : List ℤ} → FileIn F bytes starts shape ends o → Shaped F d → TablesIn F d counts work
+      → r ≡ valid F d

@@ -1,58 +1,37 @@
 // Whether the database whose tables stand in the work area is a case.
-use super::needs;
-use super::outline::Outline;
 use super::relation;
 use super::validity;
+use catalog::frames;
+use catalog::outline::Outline;
+use catalog::plan::Goal;
 use value::boolean;
-ghost use mathlib.Core.Path.{_≡_};
-ghost use Prim.Native.Nat.{_≤_};
-ghost use lib.ListN.{set};
-ghost use Rattle.cases.specs.Relations.{frameLimit};
-ghost use Rattle.cases.specs.Judgement.{SignNoted, RowsNoted, Evaluates, Verdict, Judges};
+ghost use Rattle.cases.specs.Judgement.{SignNoted, RowsNoted, Evaluates, IsWanted, IsCase};
 
 // Whether view v is negative, if it is asked.
-fn note_sign(
-    bytes: &[u8],
-    at: usize,
-    asked: &[u8],
-    counts: &[u8],
-    refuted: &mut [u8],
-    work: &mut [i32],
-    v: u8,
-)
-    requires { ⌜ at ≤ frameLimit ⌝ }
-    ensures { λ _. ⌜ SignNoted (now (bytes .entry)) at (now (asked .entry)) (now (counts .entry)) (now (refuted .entry)) (now (work .entry)) v (now (refuted .exit)) (now (work .exit)) ⌝ }
+fn note_sign(frame: &[u8], asked: &[u8], counts: &[u8], refuted: &mut [u8], work: &mut [i32], v: u8)
+    ensures { λ _. ⌜ SignNoted (now (frame .entry)) (now (asked .entry)) (now (counts .entry)) (now (refuted .entry)) (now (work .entry)) v (now (refuted .exit)) (now (work .exit)) ⌝ }
 {
     if slice::byte_at(asked, v as usize) != 1 {
         return;
     }
-    let sign = relation::is_refuted(bytes, at, counts, refuted, work, v);
+    let sign = relation::is_refuted(frame, counts, refuted, work, v);
     slice::put_byte(refuted, v as usize, boolean::one_if(sign));
 }
 
 // The rows of view v, if they are needed, and their number.
-fn note_rows(
-    bytes: &[u8],
-    at: usize,
-    shape: &[u8],
-    needed: &[u8],
-    counts: &mut [u8],
-    work: &mut [i32],
-    v: u8,
-)
-    requires { ⌜ at ≤ frameLimit ⌝ }
-    ensures { λ _. ⌜ RowsNoted (now (bytes .entry)) at (now (shape .entry)) (now (needed .entry)) (now (counts .entry)) (now (work .entry)) v (now (counts .exit)) (now (work .exit)) ⌝ }
+fn note_rows(frame: &[u8], shape: &[u8], needed: &[u8], counts: &mut [u8], work: &mut [i32], v: u8)
+    ensures { λ _. ⌜ RowsNoted (now (frame .entry)) (now (shape .entry)) (now (needed .entry)) (now (counts .entry)) (now (work .entry)) v (now (counts .exit)) (now (work .exit)) ⌝ }
 {
     if slice::byte_at(needed, v as usize) != 1 {
         return;
     }
-    let n = relation::view_rows(bytes, at, shape, counts, work, v);
+    let n = relation::view_rows(frame, shape, counts, work, v);
     slice::put_byte(counts, v as usize, n);
 }
 
 // The views whose rows are needed or whose sign is asked, from the first to the last. `counts` has the number of rows of each relation,
 // at first of the tables; `refuted` has 1 for a negative view, else 0.
-// Refused: the views before the goal alone; rows where signs are asked.
+// Refused: the first frame for each; rows where signs are asked.
 pub fn evaluate(
     bytes: &[u8],
     starts: &[u32],
@@ -68,21 +47,22 @@ pub fn evaluate(
 {
     let mut v = o.tables;
     while v < o.relations {
-        let at = needs::frame_at(starts, v);
-        note_sign(bytes, at, asked, counts, refuted, work, v);
-        note_rows(bytes, at, shape, needed, counts, work, v);
+        let frame = frames::frame_of(bytes, starts, v);
+        note_sign(frame, asked, counts, refuted, work, v);
+        note_rows(frame, shape, needed, counts, work, v);
         v += 1;
     }
 }
 
-// What is wanted of the goal.
-fn wanted(o: Outline, counts: &[u8], refuted: &[u8]) -> bool
-    ensures { λ r. ⌜ Verdict o (now (counts .entry)) (now (refuted .entry)) r ⌝ }
+// What is wanted of the goal: that it is negative, or that it has a row.
+// Refused: its number of rows for its sign; a goal without rows.
+pub fn wanted(goal: Goal, counts: &[u8], refuted: &[u8]) -> bool
+    ensures { λ r. ⌜ IsWanted goal (now (counts .entry)) (now (refuted .entry)) r ⌝ }
 {
-    if o.negative {
-        return slice::byte_at(refuted, o.goal as usize) == 1;
+    if goal.negative {
+        return slice::byte_at(refuted, goal.view as usize) == 1;
     }
-    0 < slice::byte_at(counts, o.goal as usize)
+    0 < slice::byte_at(counts, goal.view as usize)
 }
 
 // Whether the database in the work area is a case of the goal.
@@ -94,11 +74,12 @@ pub fn is_case(
     needed: &[u8],
     asked: &[u8],
     o: Outline,
+    goal: Goal,
     counts: &mut [u8],
     refuted: &mut [u8],
     work: &mut [i32],
 ) -> bool
-    ensures { λ r. ⌜ Judges (now (bytes .entry)) (now (starts .entry)) (now (shape .entry)) (now (needed .entry)) (now (asked .entry)) o (now (counts .entry)) (now (refuted .entry)) (now (work .entry)) r (now (counts .exit)) (now (refuted .exit)) (now (work .exit)) ⌝ }
+    ensures { λ r. ⌜ IsCase (now (bytes .entry)) (now (starts .entry)) (now (shape .entry)) (now (needed .entry)) (now (asked .entry)) o goal (now (counts .entry)) (now (refuted .entry)) (now (work .entry)) r (now (counts .exit)) (now (refuted .exit)) (now (work .exit)) ⌝ }
 {
     if !o.filled {
         return false;
@@ -117,5 +98,5 @@ pub fn is_case(
         refuted,
         work,
     );
-    wanted(o, counts, refuted)
+    wanted(goal, counts, refuted)
 }

@@ -1,9 +1,7 @@
 // Whether a database is valid: primary keys and foreign keys. Its values lie in their columns' ranges as a candidate's do.
-use super::outline::Outline;
 use catalog::arrays;
-ghost use mathlib.Core.Path.{_≡_};
-ghost use Prim.Native.Nat.{_≤_};
-ghost use lib.ListN.{length};
+use catalog::frames;
+use catalog::outline::Outline;
 ghost use Rattle.cases.specs.Validity.{Differs, DiffersFromEarlier, KeyHeld, KeysHeld, Agreed, HasParent, ForeignHeld, ForeignsHeld, Validates};
 
 // Whether two rows of a table differ in some column of the key.
@@ -128,19 +126,18 @@ fn has_parent(
     false
 }
 
-// Whether each child row of the foreign key whose frame, its kind first, stands at `at` has a parent row.
-fn foreign_key_holds(bytes: &[u8], at: usize, counts: &[u8], work: &[i32]) -> bool
-    requires { ⌜ at ≤ length (now bytes) ⌝ }
-    ensures { λ r. ⌜ ForeignHeld (now (bytes .entry)) at (now (counts .entry)) (now (work .entry)) r ⌝ }
+// Whether each child row of the foreign key of this frame has a parent row.
+fn foreign_key_holds(frame: &[u8], counts: &[u8], work: &[i32]) -> bool
+    ensures { λ r. ⌜ ForeignHeld (now (frame .entry)) (now (counts .entry)) (now (work .entry)) r ⌝ }
 {
-    let child = slice::byte_at(bytes, at + 1);
-    let parent = slice::byte_at(bytes, at + 2);
-    let count = slice::byte_at(bytes, at + 3);
+    let child = slice::byte_at(frame, 1);
+    let parent = slice::byte_at(frame, 2);
+    let count = slice::byte_at(frame, 3);
     let children = slice::byte_at(counts, child as usize);
     let parents = slice::byte_at(counts, parent as usize);
     let mut i: u8 = 0;
     while i < children {
-        if !has_parent(bytes, at + 4, count, work, child, i, parent, parents) {
+        if !has_parent(frame, 4, count, work, child, i, parent, parents) {
             return false;
         }
         i += 1;
@@ -159,10 +156,11 @@ pub fn foreign_keys_hold(bytes: &[u8], at: usize, keys: u8, counts: &[u8], work:
         if bytes.len() <= next {
             return false;
         }
-        if !foreign_key_holds(bytes, next + 1, counts, work) {
+        let frame = frames::frame_at(bytes, next);
+        if !foreign_key_holds(frame, counts, work) {
             return false;
         }
-        next = next + 1 + (bytes[next] as usize);
+        next = next + 1 + frame.len();
         k += 1;
     }
     true

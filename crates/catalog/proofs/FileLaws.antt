@@ -1,29 +1,28 @@
 -- What a file in memory tells of its relations. Assumes nothing.
 use mathlib.Core.Path.{_≡_, sym, ap, ap₂, _∙_}
 use mathlib.Core.List.{List, [], map}
-use Prim.Native.Nat.{ℕ, _*_, _≤_, _<_}
+use Prim.Native.Nat.{ℕ, _*_, _<_}
 use native.Mathlib.Omega.{arith}
-use lib.IntN.{ℤ, pos}
+use lib.IntN.{ℤ}
 use lib.ListN.{length, getD, length-map}
+use Rattle.value.specs.Bag.{All}
 use Rattle.value.specs.Integer.{narrow16}
 use Rattle.value.specs.Value.{Column}
 use Rattle.value.proofs.Fits.{narrow16-held}
 use Rattle.value.proofs.Order.{≤-trans}
 use Rattle.range.specs.declared.Range.{Range}
 use Rattle.range.specs.Ranges.{columnOf}
-use Rattle.meaning.specs.Syntax.{File}
+use Rattle.meaning.specs.Syntax.{Table, File}
 use Rattle.meaning.specs.Bounds.{Schema, noSchema, schema, schemas, tableSchema, viewSchema}
 use Rattle.meaning.proofs.Elements.{all-at}
 use Rattle.meaning.proofs.ListSteps.{map-at}
 use Rattle.meaning.proofs.Stacks.{stack-keeps}
-use Rattle.language.specs.Legal.{LegalColumn, tableAt}
-use Rattle.catalog.specs.Arrays.{widthAt, boundAt, rangesIn, rangeAt, columnAt}
-use Rattle.catalog.specs.FileIn.{FileIn}
+use Rattle.language.specs.Legal.{LegalColumn, LegalTable, tableAt}
+pub use Rattle.catalog.specs.Arrays.{noColumn}
+use Rattle.catalog.specs.Arrays.{widthAt, boundAt, schemaIn, rangeAt, columnAt}
+use Rattle.catalog.specs.FileIn.{TablesIn, FileIn}
 use Rattle.catalog.specs.declared.outline.Outline.{Outline}
 use Rattle.catalog.proofs.ArrayLaws.{none, length-ranges}
-
-abbrev pub noColumn : Column
-noColumn = record { lo = pos 0; hi = pos 0 }
 
 -- a table's schema is what it declares
 pub table-schema : (F : File) (t : ℕ) → t < length (F .tables) → schema (schemas F) t ≡ tableSchema (tableAt (F .tables) t)
@@ -37,6 +36,22 @@ column-told : (c : Column) → LegalColumn c → record { lo = narrow16 (c .lo);
 column-told c l = ap₂ (λ (a b : ℤ). record { lo = a; hi = b })
     (narrow16-held (l .low) (≤-trans (l .ordered) (l .high))) (narrow16-held (≤-trans (l .low) (l .ordered)) (l .high))
 
+-- arrays that hold the schemas of legal tables hold the tables
+pub tables-in : {ts : List Table} {shape : List ℕ} {ends : List ℤ} → All LegalTable ts
+    → ((t : ℕ) → t < length ts → schemaIn shape ends t ≡ tableSchema (tableAt ts t)) → TablesIn ts shape ends
+unfolding columnAt
+tables-in {ts} {shape} {ends} legal known = record {
+  rows = λ t h. ap (λ (s : Schema). s .bound) (known t h);
+  width = λ t h. sym (length-ranges ends (16 * t) (widthAt shape t)) ∙ ap (λ (s : Schema). length (s .ranges)) (known t h) ∙ length-map (tableAt ts t .columns) _;
+  column = λ t c h k.
+      let cs = tableAt ts t .columns in
+      let x = getD cs c noColumn in
+      let range : rangeAt shape ends t c ≡ columnOf (x .lo) (x .hi) =
+      ap (λ (s : Schema). getD (s .ranges) c none) (known t h) ∙ map-at (λ (y : Column). columnOf (y .lo) (y .hi)) cs c noColumn none k in
+      ap (λ (r : Range). record { lo = narrow16 (r .lo); hi = narrow16 (r .hi) }) range
+      ∙ column-told x (all-at (all-at legal (record { rows = 0; columns = []; key = [] }) t h .columns) noColumn c k);
+}
+
 module _ {F : File} {bytes starts shape : List ℕ} {ends : List ℤ} {o : Outline} (M : FileIn F bytes starts shape ends o) where
   pub width-is : (i : ℕ) → widthAt shape i ≡ length (schema (schemas F) i .ranges)
   width-is i = sym (length-ranges ends (16 * i) (widthAt shape i)) ∙ ap (λ (s : Schema). length (s .ranges)) (M .known i)
@@ -44,20 +59,16 @@ module _ {F : File} {bytes starts shape : List ℕ} {ends : List ℤ} {o : Outli
   pub bound-is : (i : ℕ) → boundAt shape i ≡ schema (schemas F) i .bound
   bound-is i = ap (λ (s : Schema). s .bound) (M .known i)
 
+  pub tables-are : TablesIn (F .tables) shape ends
+  tables-are = tables-in (M .legal .tables) (λ t h. M .known t ∙ table-schema F t h)
+
   -- of a table
   pub rows-are : (t : ℕ) → t < length (F .tables) → boundAt shape t ≡ tableAt (F .tables) t .rows
-  rows-are t h = bound-is t ∙ ap (λ (s : Schema). s .bound) (table-schema F t h)
+  rows-are = tables-are .rows
 
   pub columns-are : (t : ℕ) → t < length (F .tables) → widthAt shape t ≡ length (tableAt (F .tables) t .columns)
-  columns-are t h = width-is t ∙ ap (λ (s : Schema). length (s .ranges)) (table-schema F t h) ∙ length-map (tableAt (F .tables) t .columns) _
+  columns-are = tables-are .width
 
   pub column-is : (t c : ℕ) → t < length (F .tables) → c < length (tableAt (F .tables) t .columns)
       → columnAt shape ends t c ≡ getD (tableAt (F .tables) t .columns) c noColumn
-  unfolding columnAt
-  column-is t c h k =
-      let T = tableAt (F .tables) t in
-      let x = getD (T .columns) c noColumn in
-      let range : rangeAt shape ends t c ≡ columnOf (x .lo) (x .hi) =
-      ap (λ (s : Schema). getD (s .ranges) c none) (M .known t ∙ table-schema F t h) ∙ map-at (λ (y : Column). columnOf (y .lo) (y .hi)) (T .columns) c noColumn none k in
-      ap (λ (r : Range). record { lo = narrow16 (r .lo); hi = narrow16 (r .hi) }) range
-      ∙ column-told x (all-at (all-at (M .legal .tables) (record { rows = 0; columns = []; key = [] }) t h .columns) noColumn c k)
+  column-is = tables-are .column

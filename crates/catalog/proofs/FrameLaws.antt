@@ -1,16 +1,16 @@
 -- Parts of packed bytes, and frames in them. Assumes nothing.
 use mathlib.Core.Path.{_≡_, refl, sym, ap, ap₂, _∙_}
 use mathlib.Core.Bool.{Bool, true, false}
-use mathlib.Core.List.{List, [], _∷_, _++_}
+use mathlib.Core.List.{List, _∷_, _++_}
 use Prim.Native.Nat.{ℕ, _+_, _-_, _≤_, _<_, min}
 use native.Mathlib.Omega.{arith}
-use lib.ListN.{length, getD, take, drop, length-drop, drop-of-length-le}
+use lib.ListN.{length, getD, take, drop, length-drop, length-take, drop-of-length-le}
 use lib.Seq.{take-all, take-at, take-nil, drop-at, drop-drop}
-use borrow.Author.Tests.{lt-ltb, le-ltb, ne-eqb}
+use borrow.Author.Tests.{lt-ltb, le-ltb}
 use Rattle.value.proofs.Places.{byte-here}
 use Rattle.meaning.proofs.Stacks.{by-lt}
 use Rattle.text.specs.Answers.{pack}
-use Rattle.catalog.specs.Frames.{frameAt, namesIn, partsIn, partsAfter}
+use Rattle.catalog.specs.Frames.{frameAt, fromsIn, namesIn, partsAfter}
 use Rattle.catalog.specs.declared.frames.Parts.{Parts}
 
 -- a part whose start and end are kept within the bytes
@@ -49,24 +49,34 @@ frame-here bytes at f rest e =
       sym (drop-drop (length f) (at + 1) bytes) ∙ ap (drop (length f)) (h .1) ∙ drop-at f rest (length f) refl,
     )
 
+-- no frame is longer than the bytes
+pub frame-short : (bytes : List ℕ) (at : ℕ) → length (frameAt bytes at) ≤ length bytes
+unfolding frameAt
+frame-short bytes at = omega (arith, length-take (getD bytes at 0) (drop (at + 1) bytes), length-drop (at + 1) bytes)
+
 -- ---- the parts of a view's frame, in the code's words
+
+pub froms-are : (frame : List ℕ) (n : ℕ) → n ≡ getD frame 1 0 → take n (drop 2 frame) ≡ fromsIn frame
+unfolding fromsIn
+froms-are frame n e = ap (λ i. take i (drop 2 frame)) e
 
 pub names-set : (frame : List ℕ) (k : ℕ) → k ≡ getD frame 0 0 → 4 < k → take 2 (drop 1 frame) ≡ namesIn frame
 unfolding namesIn
 names-set frame k e h = rw (le-ltb (getD frame 0 0) 5 (omega arith))
 
-pub names-own : (frame : List ℕ) (k n : ℕ) → k ≡ getD frame 0 0 → k ≤ 4 → n ≡ getD frame 1 0 → take n (drop 2 frame) ≡ namesIn frame
+pub names-own : (frame : List ℕ) (k : ℕ) → k ≡ getD frame 0 0 → k ≤ 4 → fromsIn frame ≡ namesIn frame
 unfolding namesIn
-names-own frame k n e h m = rw (lt-ltb (getD frame 0 0) 5 (omega arith)) (ap (λ i. take i (drop 2 frame)) m)
+names-own frame k e h = rw (lt-ltb (getD frame 0 0) 5 (omega arith))
 
 abbrev parts : ℕ → ℕ → ℕ → Parts
 parts g w b = record { groups = g; width = w; body = b }
 
-pub parts-grouped : (frame : List ℕ) (k n g w : ℕ) → k ≡ getD frame 0 0 → k ≡ 4 → n ≡ getD frame 1 0 → g ≡ getD frame (n + 2) 0 → w ≡ getD frame (n + 3) 0
-    → parts g w (n + 4) ≡ partsIn frame
-unfolding partsIn partsAfter
-parts-grouped frame k n g w e h m a b = rw (sym e ∙ h) (ap₂ (λ (i j : ℕ). parts i j (n + 4)) a b ∙ ap (λ i. parts (getD frame (i + 2) 0) (getD frame (i + 3) 0) (i + 4)) m)
+pub parts-grouped : (frame : List ℕ) (grouped : Bool) (n g w : ℕ) → grouped ≡ true → n ≡ getD frame 1 0 → g ≡ getD frame (n + 2) 0 → w ≡ getD frame (n + 3) 0
+    → parts g w (n + 4) ≡ partsAfter grouped (getD frame 1 0) frame
+unfolding partsAfter
+parts-grouped frame grouped n g w t e a b = rw t (ap₂ (λ (i j : ℕ). parts i j (n + 4)) a b ∙ ap (λ i. parts (getD frame (i + 2) 0) (getD frame (i + 3) 0) (i + 4)) e)
 
-pub parts-basic : (frame : List ℕ) (k n w : ℕ) → k ≡ getD frame 0 0 → (k ≡ 4 → ⊥) → n ≡ getD frame 1 0 → w ≡ getD frame (n + 2) 0 → parts 0 w (n + 3) ≡ partsIn frame
-unfolding partsIn partsAfter
-parts-basic frame k n w e h m b = rw (ne-eqb (getD frame 0 0) 4 (λ q. h (e ∙ q))) (ap (λ i. parts 0 i (n + 3)) b ∙ ap (λ i. parts 0 (getD frame (i + 2) 0) (i + 3)) m)
+pub parts-basic : (frame : List ℕ) (grouped : Bool) (n w : ℕ) → grouped ≡ false → n ≡ getD frame 1 0 → w ≡ getD frame (n + 2) 0
+    → parts 0 w (n + 3) ≡ partsAfter grouped (getD frame 1 0) frame
+unfolding partsAfter
+parts-basic frame grouped n w t e b = rw t (ap (λ i. parts 0 i (n + 3)) b ∙ ap (λ i. parts 0 (getD frame (i + 2) 0) (i + 3)) e)

@@ -11,7 +11,7 @@ use Rattle.meaning.specs.Syntax.{Expr, Cond, Place, SetOperation, View}
 use Rattle.meaning.specs.Bounds.{names}
 use Rattle.language.specs.Prefix.{encodeE, encodeC}
 use Rattle.language.specs.Written.{placesBytes, viewBytes}
-use Rattle.catalog.specs.Frames.{kindOf, namesIn, partsIn, partsAfter}
+use Rattle.catalog.specs.Frames.{kindOf, fromsIn, namesIn, partsIn, partsAfter}
 
 -- what the counts are, and what stands behind them; of a set view, its operands
 abbrev pub PartsAre : List ℕ → View → Type 0
@@ -52,7 +52,7 @@ grouped-parts fs w gs h es =
     (b .0, ap (λ i. getD frame i 0) e ∙ b .1, ap (λ i. drop i frame) e′ ∙ b .2 ∙ append-assoc (W ++ P) H S ∙ append-assoc W P (H ++ S))
 
 pub view-parts : (q : View) (frame : List ℕ) → frame ≡ viewBytes q → (getD frame 0 0 ≡ kindOf q) × (namesIn frame ≡ names q) × PartsAre frame q
-unfolding viewBytes namesIn
+unfolding viewBytes fromsIn namesIn
 view-parts q frame e = rw e (kind q, named q, parts q)
   where
     kind : (q : View) → getD (viewBytes q) 0 0 ≡ kindOf q

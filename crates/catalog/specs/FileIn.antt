@@ -9,17 +9,23 @@ use lib.IntN.{ℤ}
 use lib.ListN.{length, getD, drop}
 use Rattle.text.specs.Answers.{pack}
 use Rattle.meaning.specs.Lists.{isPos, any}
-use Rattle.meaning.specs.Syntax.{View, Goal, File}
+use Rattle.meaning.specs.Syntax.{Table, View, Goal, File}
 use Rattle.meaning.specs.Algebra.{query}
 use Rattle.meaning.specs.Bounds.{schema, schemas}
 use Rattle.meaning.specs.Candidates.{candidates}
 use Rattle.language.specs.Legal.{Legal, tableAt}
 use Rattle.language.specs.Written.{maskOf, keyBytes, viewBytes}
-use Rattle.catalog.specs.Arrays.{boundAt, maskAt, schemaIn}
+use Rattle.catalog.specs.Arrays.{noColumn, widthAt, boundAt, maskAt, schemaIn, columnAt}
 use Rattle.catalog.specs.Frames.{frameIn}
 use Rattle.catalog.specs.declared.outline.Outline.{Outline}
 use Rattle.catalog.specs.declared.plan.Goal.{Goal as GoalHere}
 use Rattle.catalog.specs.declared.plan.Plan.{Plan}
+
+-- tables, the first relations: how many rows and columns the arrays say each has, and which columns
+pub record TablesIn (ts : List Table) (shape : List ℕ) (ends : List ℤ) : Type 0 where
+  pub rows : (t : ℕ) → t < length ts → boundAt shape t ≡ tableAt ts t .rows
+  pub width : (t : ℕ) → t < length ts → widthAt shape t ≡ length (tableAt ts t .columns)
+  pub column : (t c : ℕ) → t < length ts → c < length (tableAt ts t .columns) → columnAt shape ends t c ≡ getD (tableAt ts t .columns) c noColumn
 
 pub record FileIn (F : File) (bytes starts shape : List ℕ) (ends : List ℤ) (o : Outline) : Type 0 where
   pub legal : Legal F

@@ -17,6 +17,10 @@ frameAt bytes at = take (getD bytes at 0) (drop (at + 1) bytes)
 abbrev pub frameIn : List ℕ → List ℕ → ℕ → List ℕ
 frameIn bytes starts r = frameAt bytes (getD starts r 0)
 
+-- where the columns of a table's frame begin
+abbrev pub columnsStart : ℕ
+columnsStart = 4
+
 -- ---- the parts of a view's frame
 
 -- the first byte
@@ -25,9 +29,13 @@ kindOf (View.basic fs w es) = 0x03
 kindOf (View.grouped fs w gs h es) = 0x04
 kindOf (View.set op i j) = setKind op
 
--- the relations that it names: the from list behind its length, or the two operands of a set view
+-- the from list of a basic or an aggregate view, behind its length
+unfoldable pub fromsIn : List ℕ → List ℕ
+fromsIn frame = take (getD frame 1 0) (drop 2 frame)
+
+-- the relations that it names: the from list, or the two operands of a set view
 unfoldable pub namesIn : List ℕ → List ℕ
-namesIn frame = cond (ltb (getD frame 0 0) 5) (take (getD frame 1 0) (drop 2 frame)) (take 2 (drop 1 frame))
+namesIn frame = cond (ltb (getD frame 0 0) 5) (fromsIn frame) (take 2 (drop 1 frame))
 
 -- how many grouping columns and select expressions follow n from items, and where the where condition begins behind these counts: an
 -- aggregate view has one count more than a basic one

@@ -16,7 +16,7 @@ use Rattle.meaning.proofs.Stacks.{length-snoc}
 use Rattle.language.specs.Draft.{Draft, Item, empty, added, isTable, isView, width, inOrder, hasRoom}
 use Rattle.language.specs.Frames.{times, field, ending, columnField, pairField, placeField, fromList, tableFrame, keyFrame, basicFrame, groupedFrame, setFrame, goalFrame, frame, wholeFault, noTable}
 use Rattle.language.specs.Check.{Checked, readChecked, checkFrame}
-use Rattle.checker.specs.Layout.{KeysFit}
+use Rattle.checker.specs.FixedFaults.{KeysFit}
 use Rattle.language.proofs.MaskLaws.{length-maskBits}
 
 -- ---- what a reader reads has a property

@@ -9,7 +9,7 @@ use Rattle.language.specs.Reading.{byteIf}
 use Rattle.catalog.specs.Arrays.{widthAt, boundAt, maskAt}
 use Rattle.language.specs.Frames.{ending}
 use Rattle.checker.specs.Faults.{faultAt, first, under, within, fromUnder}
-use Rattle.checker.specs.Layout.{columnsFault, pairsFault, pairing, setRules, TableFault, KeyFault, SetFault, GoalFault}
+use Rattle.checker.specs.FixedFaults.{columnsFault, pairsFault, pairing, setRules, TableFault, KeyFault, SetFault, GoalFault}
 use Rattle.checker.proofs.FixedLaws.{table-law, key-law, set-law, goal-law}
 
 module _ (frame : List ℕ) where

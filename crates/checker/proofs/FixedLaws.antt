@@ -22,7 +22,7 @@ use Rattle.language.specs.Draft.{Draft, Item, width, relationCount, schemasOf}
 use Rattle.language.specs.Frames.{ending, times, columnField, pairField, tableFrame, keyFrame, setFrame, goalFrame, wholeFault, noTable}
 use Rattle.checker.specs.Faults.{faultOf, faultAt, first, under, within, fromUnder}
 use Rattle.checker.specs.Catalogued.{Catalogued, bodyFault}
-use Rattle.checker.specs.Layout.{columnsFault, pairsFault, pairing, setRules, KeysFit}
+use Rattle.checker.specs.FixedFaults.{columnsFault, pairsFault, pairing, setRules, KeysFit}
 use Rattle.checker.proofs.FieldLaws.{byte-then}
 use Rattle.language.proofs.Turns.{width-table}
 use Rattle.catalog.proofs.ArrayLaws.{length-ranges}

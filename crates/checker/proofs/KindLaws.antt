@@ -19,18 +19,18 @@ use Rattle.language.specs.Frames.{frame, wholeFault, ending, field, setFrame, g
 use Rattle.language.specs.Check.{wholeChecked, readChecked}
 use Rattle.checker.specs.Faults.{faultAt, faultOf}
 use Rattle.checker.specs.Catalogued.{Catalogued, checkedFault, bodyFault}
-use Rattle.checker.specs.Layout.{TableFault, KeyFault, SetFault, GoalFault}
+use Rattle.checker.specs.FixedFaults.{TableFault, KeyFault, SetFault, GoalFault}
 use Rattle.checker.specs.Entries.{TableEntered, SetEntered}
 use Rattle.catalog.specs.Arrays.{putShape}
 use Rattle.checker.specs.ViewFaults.{BasicBytes, GroupedBytes}
 use Rattle.checker.specs.ViewRules.{Rules}
-use Rattle.checker.specs.Standing.{Stands, Held, Turned, withTable, withKey, withView, withGoal}
-use Rattle.checker.specs.declared.state.State.{State}
+use Rattle.checker.specs.Standing.{Counts, DraftIn, Turned, withTable, withKey, withView, withGoal}
+use Rattle.checker.specs.declared.state.Progress.{Progress}
 use Rattle.checker.specs.declared.view_rules.Ruled.{Ruled}
 use Rattle.checker.proofs.EntryLaws.{key-entered, goal-entered}
 use Rattle.language.proofs.FairReaders.{Good, Nil}
 use Rattle.language.proofs.FairFrames.{Well, fair-frame}
-use Rattle.checker.proofs.StandingLaws.{stands-table, stands-key, stands-view, stands-goal}
+use Rattle.checker.proofs.StandingLaws.{counts-table, counts-key, counts-view, counts-goal}
 use Rattle.checker.proofs.StepLaws.{stepAt, Found, turned-refused}
 use Rattle.checker.proofs.TableLaws.{byte-read, ending-read}
 use Rattle.language.proofs.Turns.{itemStage, Turn, turn, stage-known}
@@ -48,10 +48,10 @@ item-stage d k bs i o reads = stage-read d k (fair-frame d k (stage-known d k o)
 item-turn : (d : Draft) (k : ℕ) (bs : List ℕ) (i : Item) → inOrder d k ≡ true → hasRoom d k ≡ true → frame d k bs ≡ Read.ok i [] → Turn d i
 item-turn d k bs i o r reads = turn d i (stageOf k) (item-stage d k bs i o reads) o r
 
-key-found : {f : List ℕ} {s : State} {shape : List ℕ} {ends : List ℤ} {n : ℕ} → KeyFault f shape (s .tables) n → Found 2 f s shape ends n
-key-found {ends = ends} k = λ d h o r. k .at d ends (h .catalogued) (h .fits) (h .stands .tables)
+key-found : {f : List ℕ} {s : Progress} {shape : List ℕ} {ends : List ℤ} {n : ℕ} → KeyFault f shape (s .tables) n → Found 2 f s shape ends n
+key-found {ends = ends} k = λ d h o r. k .at d ends (h .catalogued) (h .fits) (h .counts .tables)
 
-module _ {f : List ℕ} {s : State} {shape : List ℕ} {ends : List ℤ} {n : ℕ} {s′ : State} where
+module _ {f : List ℕ} {s : Progress} {shape : List ℕ} {ends : List ℤ} {n : ℕ} {s′ : Progress} where
   -- ---- 01
 
   pub table-refused : {shape′ : List ℕ} {ends′ : List ℤ} → TableFault f n → (n ≡ 0 → ⊥) → Turned 1 f s shape ends shape′ ends′ (stepAt n s′)
@@ -64,11 +64,11 @@ module _ {f : List ℕ} {s : State} {shape : List ℕ} {ends : List ℤ} {n : �
     next = λ d i h o r reads whole. go d i h (item-stage d 1 (drop 1 f) i o reads) (item-turn d 1 (drop 1 f) i o r reads) reads;
   }
     where
-      go : (d : Draft) (i : Item) → Held d s shape ends → 1 ≡ itemStage i → Turn d i → frame d 1 (drop 1 f) ≡ Read.ok i []
-          → Stands (added d i) s′ × Catalogued (added d i) shape′ ends′
+      go : (d : Draft) (i : Item) → DraftIn d s shape ends → 1 ≡ itemStage i → Turn d i → frame d 1 (drop 1 f) ≡ Read.ok i []
+          → Counts (added d i) s′ × Catalogued (added d i) shape′ ends′
       go d (Item.table t) h p turn reads =
           let none : length (d .views) ≡ 0 = ap length (turn .views) in
-          (rw w (stands-table (h .stands) t turn), e .entered d t (h .catalogued) (omega (arith, h .stands .relations)) (omega (arith, h .stands .relations, turn .room)) (turn .views) reads)
+          (rw w (counts-table (h .counts) t turn), e .entered d t (h .catalogued) (omega (arith, h .counts .relations)) (omega (arith, h .counts .relations, turn .room)) (turn .views) reads)
       go d (Item.key k) h p turn reads = absurd (omega arith)
       go d (Item.view q) h p turn reads = absurd (omega arith)
       go d (Item.goal g) h p turn reads = absurd (omega arith)
@@ -84,9 +84,9 @@ module _ {f : List ℕ} {s : State} {shape : List ℕ} {ends : List ℤ} {n : �
     next = λ d i h o r reads whole. go d i h (item-stage d 2 (drop 1 f) i o reads) (item-turn d 2 (drop 1 f) i o r reads);
   }
     where
-      go : (d : Draft) (i : Item) → Held d s shape ends → 2 ≡ itemStage i → Turn d i → Stands (added d i) s′ × Catalogued (added d i) shape ends
+      go : (d : Draft) (i : Item) → DraftIn d s shape ends → 2 ≡ itemStage i → Turn d i → Counts (added d i) s′ × Catalogued (added d i) shape ends
       go d (Item.table t) h p turn = absurd (omega arith)
-      go d (Item.key k) h p turn = (rw w (stands-key (h .stands) k turn), key-entered (h .catalogued) k)
+      go d (Item.key k) h p turn = (rw w (counts-key (h .counts) k turn), key-entered (h .catalogued) k)
       go d (Item.view q) h p turn = absurd (omega arith)
       go d (Item.goal g) h p turn = absurd (omega arith)
 
@@ -114,26 +114,26 @@ as-view (Item.view q) e = (q, refl)
 as-view (Item.goal g) e = absurd (omega arith)
 
 module _ (k : ℕ) (reader : Draft → Reader Item) (same : (d : Draft) → frame d k ≡ reader d) (three : stageOf k ≡ 3)
-    (f : List ℕ) {s : State} {shape : List ℕ} {ends : List ℤ} {n : ℕ} where
-  view-refused : {s′ : State} {shape′ : List ℕ} {ends′ : List ℤ} → Bytes reader f shape (s .relations) n → (n ≡ 0 → ⊥) → Turned k f s shape ends shape′ ends′ (stepAt n s′)
+    (f : List ℕ) {s : Progress} {shape : List ℕ} {ends : List ℤ} {n : ℕ} where
+  view-refused : {s′ : Progress} {shape′ : List ℕ} {ends′ : List ℤ} → Bytes reader f shape (s .relations) n → (n ≡ 0 → ⊥) → Turned k f s shape ends shape′ ends′ (stepAt n s′)
   unfolding bodyFault faultAt
   view-refused b nz = turned-refused n
       (λ d h o r.
-      let e : n ≡ faultOf (frame d k (drop 1 f)) = b d ends (h .catalogued) (h .stands .relations) ∙ ap (λ (m : Reader Item). faultOf (m (drop 1 f))) (sym (same d)) in
+      let e : n ≡ faultOf (frame d k (drop 1 f)) = b d ends (h .catalogued) (h .counts .relations) ∙ ap (λ (m : Reader Item). faultOf (m (drop 1 f))) (sym (same d)) in
       e ∙ sym (body-refused d (frame d k (drop 1 f)) (λ z. nz (e ∙ z))))
       nz
 
   -- the view that is read
-  view-read : Bytes reader f shape (s .relations) n → n ≡ 0 → (d : Draft) → Held d s shape ends → inOrder d k ≡ true
+  view-read : Bytes reader f shape (s .relations) n → n ≡ 0 → (d : Draft) → DraftIn d s shape ends → inOrder d k ≡ true
       → (q : View) × (frame d k (drop 1 f) ≡ Read.ok (Item.view q) [])
   unfolding faultAt
   view-read b z d h o =
-      let e : faultOf (frame d k (drop 1 f)) ≡ 0 = ap (λ (m : Reader Item). faultOf (m (drop 1 f))) (same d) ∙ sym (b d ends (h .catalogued) (h .stands .relations)) ∙ z in
+      let e : faultOf (frame d k (drop 1 f)) ≡ 0 = ap (λ (m : Reader Item). faultOf (m (drop 1 f))) (same d) ∙ sym (b d ends (h .catalogued) (h .counts .relations)) ∙ z in
       let (i, reads, p) = read-well (fair-frame d k (stage-known d k o) .good (drop 1 f)) e in
       let (q, v) = as-view i (sym three ∙ p .0) in
       (q, reads ∙ ap (λ (x : Item). Read.ok x []) v)
 
-  view-done : {s′ : State} {shape′ : List ℕ} {ends′ : List ℤ} (a : Ruled) → Bytes reader f shape (s .relations) n → n ≡ 0
+  view-done : {s′ : Progress} {shape′ : List ℕ} {ends′ : List ℤ} (a : Ruled) → Bytes reader f shape (s .relations) n → n ≡ 0
       → Rules reader f (s .relations) shape ends ends′ a → shape′ ≡ putShape shape (s .relations) 2 (a .width) (a .bound) 0 → s′ ≡ withView s
       → Turned k f s shape ends shape′ ends′ (stepAt (a .fault) s′)
   unfolding bodyFault
@@ -142,21 +142,21 @@ module _ (k : ℕ) (reader : Draft → Reader Item) (same : (d : Draft) → fram
         let (q, reads) = view-read b z d h o in
         let there : reader d (drop 1 f) ≡ Read.ok (Item.view q) [] = ap (λ (m : Reader Item). m (drop 1 f)) (sym (same d)) ∙ reads in
         let room = item-turn d k (drop 1 f) (Item.view q) o r reads .room in
-        rules .fault d q (h .catalogued) (h .stands .relations) (omega (arith, h .stands .relations)) there
+        rules .fault d q (h .catalogued) (h .counts .relations) (omega (arith, h .counts .relations)) there
         ∙ sym (ap (λ (m : Read Item). checkedFault (readChecked d m)) reads ∙ body-whole d (Item.view q));
     next = λ d i h o r reads whole. go d i h (sym three ∙ item-stage d k (drop 1 f) i o reads) (item-turn d k (drop 1 f) i o r reads)
         (ap (λ (m : Reader Item). m (drop 1 f)) (sym (same d)) ∙ reads) whole;
   }
     where
-      go : (d : Draft) (i : Item) → Held d s shape ends → 3 ≡ itemStage i → Turn d i → reader d (drop 1 f) ≡ Read.ok i [] → wholeFault d i ≡ 0
-          → Stands (added d i) s′ × Catalogued (added d i) shape′ ends′
+      go : (d : Draft) (i : Item) → DraftIn d s shape ends → 3 ≡ itemStage i → Turn d i → reader d (drop 1 f) ≡ Read.ok i [] → wholeFault d i ≡ 0
+          → Counts (added d i) s′ × Catalogued (added d i) shape′ ends′
       go d (Item.table t) h e turn reads whole = absurd (omega arith)
       go d (Item.key k) h e turn reads whole = absurd (omega arith)
       go d (Item.view q) h e turn reads whole =
-          (rw w (stands-view (h .stands) q turn), rw p (rules .entered d q (h .catalogued) (h .stands .relations) (omega (arith, h .stands .relations, turn .room)) reads whole))
+          (rw w (counts-view (h .counts) q turn), rw p (rules .entered d q (h .catalogued) (h .counts .relations) (omega (arith, h .counts .relations, turn .room)) reads whole))
       go d (Item.goal g) h e turn reads whole = absurd (omega arith)
 
-module _ {f : List ℕ} {s : State} {shape : List ℕ} {ends : List ℤ} {n : ℕ} {s′ : State} {shape′ : List ℕ} {ends′ : List ℤ} where
+module _ {f : List ℕ} {s : Progress} {shape : List ℕ} {ends : List ℤ} {n : ℕ} {s′ : Progress} {shape′ : List ℕ} {ends′ : List ℤ} where
   pub basic-refused : BasicBytes f shape (s .relations) n → (n ≡ 0 → ⊥) → Turned 3 f s shape ends shape′ ends′ (stepAt n s′)
   basic-refused b nz = view-refused 3 basicFrame (λ d. refl) refl f (b .at) nz
 
@@ -215,14 +215,14 @@ set-frame : (op : SetOperation) (d : Draft) → frame d (setKind op) ≡ setFram
 set-frame SetOperation.union d = refl
 set-frame SetOperation.intersection d = refl
 
-module _ (op : SetOperation) {f : List ℕ} {s : State} {shape : List ℕ} {ends : List ℤ} {n : ℕ} where
+module _ (op : SetOperation) {f : List ℕ} {s : Progress} {shape : List ℕ} {ends : List ℤ} {n : ℕ} where
   set-found : SetFault f shape (s .tables) (s .relations) op n → Found (setKind op) f s shape ends n
-  set-found t = λ d h o r. t .at d ends (h .catalogued) (h .stands .tables) (h .stands .relations) ∙ ap (λ (m : Reader Item). bodyFault d m f) (sym (set-frame op d))
+  set-found t = λ d h o r. t .at d ends (h .catalogued) (h .counts .tables) (h .counts .relations) ∙ ap (λ (m : Reader Item). bodyFault d m f) (sym (set-frame op d))
 
-  pub set-refused : {s′ : State} {shape′ : List ℕ} {ends′ : List ℤ} → SetFault f shape (s .tables) (s .relations) op n → (n ≡ 0 → ⊥) → Turned (setKind op) f s shape ends shape′ ends′ (stepAt n s′)
+  pub set-refused : {s′ : Progress} {shape′ : List ℕ} {ends′ : List ℤ} → SetFault f shape (s .tables) (s .relations) op n → (n ≡ 0 → ⊥) → Turned (setKind op) f s shape ends shape′ ends′ (stepAt n s′)
   set-refused t nz = turned-refused n (set-found t) nz
 
-  pub set-done : {s′ : State} {shape′ : List ℕ} {ends′ : List ℤ} {left right : ℕ} → SetFault f shape (s .tables) (s .relations) op n → n ≡ 0 → left ≡ getD f 1 0 → right ≡ getD f 2 0
+  pub set-done : {s′ : Progress} {shape′ : List ℕ} {ends′ : List ℤ} {left right : ℕ} → SetFault f shape (s .tables) (s .relations) op n → n ≡ 0 → left ≡ getD f 1 0 → right ≡ getD f 2 0
       → SetEntered op left right (s .relations) shape ends shape′ ends′ → s′ ≡ withView s → Turned (setKind op) f s shape ends shape′ ends′ (stepAt 0 s′)
   set-done {s′} {shape′} {ends′} {left} {right} t z l r e w = record {
     fault = λ d h o p. sym z ∙ set-found t d h o p;
@@ -230,16 +230,16 @@ module _ (op : SetOperation) {f : List ℕ} {s : State} {shape : List ℕ} {ends
         (item-turn d (setKind op) (drop 1 f) i o p reads) whole;
   }
     where
-      go : (d : Draft) (i : Item) → Held d s shape ends → SetRead d op f i → Turn d i → wholeFault d i ≡ 0
-          → Stands (added d i) s′ × Catalogued (added d i) shape′ ends′
+      go : (d : Draft) (i : Item) → DraftIn d s shape ends → SetRead d op f i → Turn d i → wholeFault d i ≡ 0
+          → Counts (added d i) s′ × Catalogued (added d i) shape′ ends′
       go d i h read turn whole =
           let q : View = View.set op left right in
           let is : i ≡ Item.view q = read .view ∙ ap₂ (λ x y. Item.view (View.set op x y)) (sym l) (sym r) in
           let turn′ : Turn d (Item.view q) = subst (Turn d) is turn in
           let whole′ : wholeFault d (Item.view q) ≡ 0 = subst (λ (x : Item). wholeFault d x ≡ 0) is whole in
-          subst (λ (x : Item). Stands (added d x) s′ × Catalogued (added d x) shape′ ends′) (sym is) (
-            rw w (stands-view (h .stands) q turn′),
-            e .entered d (h .catalogued) (h .stands .relations) (omega (arith, h .stands .relations, turn′ .room)) (omega (arith, read .left)) (omega (arith, read .right)) (whole-bounded d q whole′),
+          subst (λ (x : Item). Counts (added d x) s′ × Catalogued (added d x) shape′ ends′) (sym is) (
+            rw w (counts-view (h .counts) q turn′),
+            e .entered d (h .catalogued) (h .counts .relations) (omega (arith, h .counts .relations, turn′ .room)) (omega (arith, read .left)) (omega (arith, read .right)) (whole-bounded d q whole′),
           )
 
 -- ---- 07
@@ -254,12 +254,12 @@ goal-read d f i e =
     let (q, e₂) = byte-read 5 (λ b. leb 0 b && leb b 1) (drop 1 bs) (λ s. ending (goalOf v s)) e₁ in
     sym (ending-read (goalOf v (getD (drop 1 bs) 0 0)) i (drop 1 (drop 1 bs)) e₂) ∙ ap₂ goalOf (getD-drop 1 f 0 0) (second-at f)
 
-pub goal-done : {f : List ℕ} {s : State} {shape : List ℕ} {ends : List ℤ} {n : ℕ} {s′ : State} {view sign : ℕ} → GoalFault f (s .tables) (s .relations) n
+pub goal-done : {f : List ℕ} {s : Progress} {shape : List ℕ} {ends : List ℤ} {n : ℕ} {s′ : Progress} {view sign : ℕ} → GoalFault f (s .tables) (s .relations) n
     → view ≡ getD f 1 0 → sign ≡ getD f 2 0 → s′ ≡ withGoal s view sign → Turned 7 f s shape ends shape ends (stepAt n s′)
 goal-done {f} {s} {shape} {ends} {n} {s′} {view} {sign} t v g w = record {
-  fault = λ d h o r. t .at d (h .stands .tables) (h .stands .relations);
+  fault = λ d h o r. t .at d (h .counts .tables) (h .counts .relations);
   next = λ d i h o r reads whole.
       let goal : Goal = record { view = getD f 1 0; negative = eqb (getD f 2 0) 1 } in
-      subst (λ (x : Item). Stands (added d x) s′ × Catalogued (added d x) shape ends) (sym (goal-read d f i reads))
-      (rw w (stands-goal (h .stands) goal view sign v (ap (λ x. eqb x 1) g)), goal-entered (h .catalogued) goal);
+      subst (λ (x : Item). Counts (added d x) s′ × Catalogued (added d x) shape ends) (sym (goal-read d f i reads))
+      (rw w (counts-goal (h .counts) goal view sign v (ap (λ x. eqb x 1) g)), goal-entered (h .catalogued) goal);
 }

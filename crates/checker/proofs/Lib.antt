@@ -1,7 +1,6 @@
 -- The laws of checked files, lowest first.
 -- the fields of a frame, as the code tests them
 pub mod FieldLaws
--- relations as the arrays hold them
 -- frames of fixed layout
 pub mod SizedLaws
 pub mod BodyLaws
@@ -25,4 +24,5 @@ pub mod StandingLaws
 pub mod StepLaws
 pub mod KindLaws
 pub mod WalkLaws
+pub mod FileInLaws
 pub mod PlanLaws

@@ -16,7 +16,7 @@ use Rattle.language.proofs.Readers.{then-ok}
 use Rattle.language.specs.Frames.{times, pairField, exactlyKey}
 use Rattle.language.specs.Written.{maskOf}
 use Rattle.checker.specs.Faults.{first, under}
-use Rattle.checker.specs.Layout.{parentCount, columnPairing, pairing}
+use Rattle.checker.specs.FixedFaults.{parentCount, columnPairing, pairing}
 use Rattle.checker.proofs.FieldLaws.{first-none, first-some}
 use Rattle.checker.proofs.SizedLaws.{sized-byteIf, sized-pair}
 

@@ -17,7 +17,7 @@ use Rattle.meaning.proofs.Sizes.{length-hulls}
 use Rattle.catalog.specs.Arrays.{widthAt, boundAt, rangesFrom, rangesIn, rangeAt, putRange, putShape, putRanges, Outside}
 use Rattle.language.specs.Draft.{Draft, relationCount, schemasOf}
 use Rattle.checker.specs.Catalogued.{Catalogued}
-use Rattle.checker.specs.Layout.{setOperation}
+use Rattle.checker.specs.FixedFaults.{setOperation}
 use Rattle.checker.specs.Entries.{hullAt, Before, HullsPut, SetEntered}
 use Rattle.catalog.proofs.ArrayLaws.{none, length-ranges, ranges-same, puts-outside, puts-ranges, puts-before, puts-more}
 use Rattle.checker.proofs.EntryLaws.{view-entered}

@@ -13,8 +13,8 @@ use Rattle.meaning.proofs.Stacks.{length-snoc}
 use Rattle.language.specs.Draft.{Draft, Item, empty, added, isNil, stage, stageOf, inOrder, hasRoom}
 use Rattle.language.specs.Check.{Checked, checkFrame, readChecked}
 use Rattle.language.specs.Frames.{frame}
-use Rattle.checker.specs.Standing.{Stands, startState, roomFor, turnFault, withTable, withKey, withView, withGoal}
-use Rattle.checker.specs.declared.state.State.{State}
+use Rattle.checker.specs.Standing.{Counts, startProgress, roomFor, turnFault, withTable, withKey, withView, withGoal}
+use Rattle.checker.specs.declared.state.Progress.{Progress}
 use Rattle.language.proofs.Turns.{draft, by-kind, TableTurn, KeyTurn, ViewTurn}
 
 -- ---- the stage
@@ -39,12 +39,12 @@ stage-view ts ks qs q g c = rw (c, nil-snoc qs q)
 no-goal : {A : Type 0} {o : Option Goal} {g : Goal} → o ≡ none → o ≡ some g → A
 no-goal {o = o} {g = g} p q = let z : _≡_ {A = ℕ} 0 1 = cc in absurd (omega arith)
 
-pub stands-empty : Stands empty startState
-stands-empty = record { tables = refl; relations = refl; keys = refl; stage-is = refl; goal = λ g e. no-goal refl e }
+pub counts-empty : Counts empty startProgress
+counts-empty = record { tables = refl; relations = refl; keys = refl; stage-is = refl; goal = λ g e. no-goal refl e }
 
-module _ {d : Draft} {s : State} (h : Stands d s) where
-  pub stands-table : (t : Table) → TableTurn d → Stands (added d (Item.table t)) (withTable s)
-  stands-table t turn = record {
+module _ {d : Draft} {s : Progress} (h : Counts d s) where
+  pub counts-table : (t : Table) → TableTurn d → Counts (added d (Item.table t)) (withTable s)
+  counts-table t turn = record {
     tables = omega (arith, h .tables, turn .room, length-snoc (d .tables) t);
     relations = omega (arith, h .relations, turn .room, length-snoc (d .tables) t);
     keys = h .keys;
@@ -52,8 +52,8 @@ module _ {d : Draft} {s : State} (h : Stands d s) where
     goal = λ g e. no-goal (turn .goal) e;
   }
 
-  pub stands-key : (k : ForeignKey) → KeyTurn d → Stands (added d (Item.key k)) (withKey s)
-  stands-key k turn = record {
+  pub counts-key : (k : ForeignKey) → KeyTurn d → Counts (added d (Item.key k)) (withKey s)
+  counts-key k turn = record {
     tables = h .tables;
     relations = h .relations;
     keys = omega (arith, h .keys, turn .room, length-snoc (d .keys) k);
@@ -61,8 +61,8 @@ module _ {d : Draft} {s : State} (h : Stands d s) where
     goal = λ g e. no-goal (turn .goal) e;
   }
 
-  pub stands-view : (q : View) → ViewTurn d → Stands (added d (Item.view q)) (withView s)
-  stands-view q turn = record {
+  pub counts-view : (q : View) → ViewTurn d → Counts (added d (Item.view q)) (withView s)
+  counts-view q turn = record {
     tables = h .tables;
     relations = omega (arith, h .relations, turn .room, length-snoc (d .views) q);
     keys = h .keys;
@@ -70,8 +70,8 @@ module _ {d : Draft} {s : State} (h : Stands d s) where
     goal = λ g e. no-goal (turn .goal) e;
   }
 
-  pub stands-goal : (g : Goal) (view sign : ℕ) → view ≡ g .view → eqb sign 1 ≡ g .negative → Stands (added d (Item.goal g)) (withGoal s view sign)
-  stands-goal g view sign v n = record {
+  pub counts-goal : (g : Goal) (view sign : ℕ) → view ≡ g .view → eqb sign 1 ≡ g .negative → Counts (added d (Item.goal g)) (withGoal s view sign)
+  counts-goal g view sign v n = record {
     tables = h .tables;
     relations = h .relations;
     keys = h .keys;

@@ -14,15 +14,15 @@ use Rattle.language.specs.Draft.{Draft, Item, added, stageOf, inOrder, hasRoom}
 use Rattle.language.specs.Frames.{frame, wholeFault}
 use Rattle.language.specs.Check.{Checked, checkFrame, readChecked}
 use Rattle.checker.specs.Catalogued.{Catalogued, checkedFault, bodyFault}
-use Rattle.checker.specs.Standing.{Stands, Held, Turned, Stepped, turnFault}
-use Rattle.checker.specs.declared.state.State.{State}
+use Rattle.checker.specs.Standing.{Counts, DraftIn, Turned, Stepped, turnFault}
+use Rattle.checker.specs.declared.state.Progress.{Progress}
 use Rattle.checker.specs.declared.step.Step.{Step}
 use Rattle.checker.proofs.FitLaws.{fits-next}
 use Rattle.checker.proofs.StandingLaws.{turn-passed, turn-refused}
 use Rattle.language.proofs.Steps.{Taken, Looked, looked, whole-zero}
 use Rattle.language.proofs.Turns.{by-kind, stage-known}
 
-abbrev pub stepAt : ℕ → State → Step
+abbrev pub stepAt : ℕ → Progress → Step
 stepAt n s = record { fault = n; state = s }
 
 -- ---- what a frame that is taken adds
@@ -42,25 +42,25 @@ module _ (d : Draft) (k : ℕ) (f : List ℕ) where
   body-zero r w = rw (r, w)
 
 -- n is the fault of the frame's body
-abbrev pub Found : ℕ → List ℕ → State → List ℕ → List ℤ → ℕ → Type 0
-Found k f s shape ends n = (d : Draft) → Held d s shape ends → inOrder d k ≡ true → hasRoom d k ≡ true → n ≡ bodyFault d (frame d k) f
+abbrev pub Found : ℕ → List ℕ → Progress → List ℕ → List ℤ → ℕ → Type 0
+Found k f s shape ends n = (d : Draft) → DraftIn d s shape ends → inOrder d k ≡ true → hasRoom d k ≡ true → n ≡ bodyFault d (frame d k) f
 
-pub turned-refused : {k : ℕ} {f : List ℕ} {s : State} {shape : List ℕ} {ends : List ℤ} {shape′ : List ℕ} {ends′ : List ℤ} (n : ℕ) {s′ : State}
+pub turned-refused : {k : ℕ} {f : List ℕ} {s : Progress} {shape : List ℕ} {ends : List ℤ} {shape′ : List ℕ} {ends′ : List ℤ} (n : ℕ) {s′ : Progress}
     → Found k f s shape ends n → (n ≡ 0 → ⊥) → Turned k f s shape ends shape′ ends′ (stepAt n s′)
 turned-refused {k} {f} n found nz =
     record { fault = found; next = λ d i h o r reads w. absurd (nz (found d h o r ∙ body-zero d k f reads w)) }
 
 -- ---- any frame
 
-module _ {f : List ℕ} {s : State} {shape : List ℕ} {ends : List ℤ} where
-  stopped : (shape′ : List ℕ) (ends′ : List ℤ) (n : ℕ) (s′ : State) → ((d : Draft) → Held d s shape ends → checkFrame d f ≡ Checked.fault n)
+module _ {f : List ℕ} {s : Progress} {shape : List ℕ} {ends : List ℤ} where
+  stopped : (shape′ : List ℕ) (ends′ : List ℤ) (n : ℕ) (s′ : Progress) → ((d : Draft) → DraftIn d s shape ends → checkFrame d f ≡ Checked.fault n)
       → Stepped f s shape ends shape′ ends′ (stepAt n s′)
   stopped shape′ ends′ n s′ e = record {
     fault = λ d h. sym (ap checkedFault (e d h));
     next = λ d g h q. let both : Checked.fault n ≡ Checked.next g = sym (e d h) ∙ q in let z : _≡_ {A = ℕ} 0 1 = cc in absurd (omega arith);
   }
 
-  pub stepped-empty : (shape′ : List ℕ) (ends′ : List ℤ) (s′ : State) → length f ≡ 0 → Stepped f s shape ends shape′ ends′ (stepAt 4 s′)
+  pub stepped-empty : (shape′ : List ℕ) (ends′ : List ℤ) (s′ : Progress) → length f ≡ 0 → Stepped f s shape ends shape′ ends′ (stepAt 4 s′)
   unfolding checkFrame
   stepped-empty shape′ ends′ s′ e = stopped shape′ ends′ 4 s′ (λ d h. at f e d)
     where
@@ -78,27 +78,27 @@ body-checked : (f : List ℕ) → 0 < length f → (d : Draft) → inOrder d (ge
 unfolding checkFrame
 body-checked f some d o r = ap (checkFrame d) (cut f some) ∙ rw (o, r)
 
-module _ {f : List ℕ} {s : State} {shape : List ℕ} {ends : List ℤ} (some : 0 < length f) where
-  pub stepped-turn : (shape′ : List ℕ) (ends′ : List ℤ) (n : ℕ) (s′ : State) → n ≡ turnFault s (getD f 0 0) → (n ≡ 0 → ⊥)
+module _ {f : List ℕ} {s : Progress} {shape : List ℕ} {ends : List ℤ} (some : 0 < length f) where
+  pub stepped-turn : (shape′ : List ℕ) (ends′ : List ℤ) (n : ℕ) (s′ : Progress) → n ≡ turnFault s (getD f 0 0) → (n ≡ 0 → ⊥)
       → Stepped f s shape ends shape′ ends′ (stepAt n s′)
   stepped-turn shape′ ends′ n s′ e nz = stopped shape′ ends′ n s′
-      (λ d h. ap (checkFrame d) (cut f some) ∙ turn-refused (h .stands) (getD f 0 0) (drop 1 f) (λ z. nz (e ∙ z)) ∙ ap Checked.fault (sym e))
+      (λ d h. ap (checkFrame d) (cut f some) ∙ turn-refused (h .counts) (getD f 0 0) (drop 1 f) (λ z. nz (e ∙ z)) ∙ ap Checked.fault (sym e))
 
   pub stepped-body : (shape′ : List ℕ) (ends′ : List ℤ) (n : ℕ) (r : Step) → n ≡ turnFault s (getD f 0 0) → n ≡ 0
       → Turned (getD f 0 0) f s shape ends shape′ ends′ r → Stepped f s shape ends shape′ ends′ r
   unfolding bodyFault
   stepped-body shape′ ends′ n r e z t = record {
     fault = λ d h.
-        let p = turn-passed (h .stands) (getD f 0 0) (sym e ∙ z) in
+        let p = turn-passed (h .counts) (getD f 0 0) (sym e ∙ z) in
         t .fault d h (p .0) (p .1) ∙ ap checkedFault (sym (body-checked f some d (p .0) (p .1)));
     next = λ d g h q.
         let k = getD f 0 0 in
-        let p = turn-passed (h .stands) k (sym e ∙ z) in
+        let p = turn-passed (h .counts) k (sym e ∙ z) in
         let (i, taken, same) = taken-of (looked d f) q in
         let reads : frame d k (drop 1 f) ≡ Read.ok i [] = reads-same d k (taken .kind) (drop 1 f) (taken .bytes) (Read.ok i []) (sym (cut f some) ∙ taken .cut) (taken .reads) in
-        let (stands, catalogued) = t .next d i h (p .0) (p .1) reads (whole-zero d i (taken .whole)) in
+        let (counts, catalogued) = t .next d i h (p .0) (p .1) reads (whole-zero d i (taken .whole)) in
         record {
-          stands = subst (λ (x : Draft). Stands x (r .state)) same stands;
+          counts = subst (λ (x : Draft). Counts x (r .state)) same counts;
           catalogued = subst (λ (x : Draft). Catalogued x shape′ ends′) same catalogued;
           fits = fits-next d g f (h .fits) q;
         };
@@ -106,7 +106,7 @@ module _ {f : List ℕ} {s : State} {shape : List ℕ} {ends : List ℤ} (some :
 
 -- ---- any kind
 
-pub turned-same : {f : List ℕ} {s : State} {shape : List ℕ} {ends : List ℤ} {shape′ : List ℕ} {ends′ : List ℤ} {r : Step} {k j : ℕ} → k ≡ j
+pub turned-same : {f : List ℕ} {s : Progress} {shape : List ℕ} {ends : List ℤ} {shape′ : List ℕ} {ends′ : List ℤ} {r : Step} {k j : ℕ} → k ≡ j
     → Turned j f s shape ends shape′ ends′ r → Turned k f s shape ends shape′ ends′ r
 turned-same {f} {s} {shape} {ends} {shape′} {ends′} {r} e t = subst (λ (i : ℕ). Turned i f s shape ends shape′ ends′ r) (sym e) t
 
@@ -115,7 +115,7 @@ seven = by-kind (λ k. (k ≡ 1 → ⊥) → (k ≡ 2 → ⊥) → (k ≡ 3 → 
     (λ a b c d e f. absurd (a refl)) (λ a b c d e f. absurd (b refl)) (λ a b c d e f. absurd (c refl)) (λ a b c d e f. absurd (d refl))
     (λ a b c d e f. absurd (e refl)) (λ a b c d e f. absurd (f refl)) (λ a b c d e f. refl)
 
-pub turned-other : {f : List ℕ} {s : State} {shape : List ℕ} {ends : List ℤ} {shape′ : List ℕ} {ends′ : List ℤ} {r : Step} (k : ℕ)
+pub turned-other : {f : List ℕ} {s : Progress} {shape : List ℕ} {ends : List ℤ} {shape′ : List ℕ} {ends′ : List ℤ} {r : Step} (k : ℕ)
     → (k ≡ 1 → ⊥) → (k ≡ 2 → ⊥) → (k ≡ 3 → ⊥) → (k ≡ 4 → ⊥) → (k ≡ 5 → ⊥) → (k ≡ 6 → ⊥)
     → Turned 7 f s shape ends shape′ ends′ r → Turned k f s shape ends shape′ ends′ r
 turned-other {f} {s} {shape} {ends} {shape′} {ends′} {r} k a b c d e g t = record {

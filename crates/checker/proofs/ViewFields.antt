@@ -2,10 +2,10 @@
 use mathlib.Core.Path.{_≡_, refl, sym, ap, ap₂, subst, _∙_}
 use mathlib.Core.Bool.{Bool, true, _&&_, and-true, and-assoc}
 use mathlib.Core.List.{List, [], _∷_, _++_, map}
-use Prim.Native.Nat.{ℕ, zero, suc, _+_, _-_, _*_, _≤_, _<_}
+use Prim.Native.Nat.{ℕ, zero, suc, _+_, _*_, _≤_, _<_}
 use native.Mathlib.Omega.{arith}
 use lib.Dec.{ltb, leb}
-use lib.ListN.{length, getD, take, drop, length-drop, drop-of-length-le}
+use lib.ListN.{length, getD, take, drop, drop-of-length-le}
 use lib.Seq.{drop-drop, drop-length, length-take-le}
 use borrow.Author.Tests.{ltb-true, ltb-false, leb-true}
 use Rattle.value.specs.Bag.{All}
@@ -16,6 +16,8 @@ use Rattle.meaning.specs.Lists.{all}
 use Rattle.meaning.specs.Syntax.{Expr, Cond, Place, View}
 use Rattle.language.specs.Reading.{Read, Reader, done, andThen, _>>=_, byteIf, readE, readC}
 use Rattle.language.proofs.Readers.{then-ok}
+use Rattle.catalog.specs.Frames.{fromsIn, partsAfter}
+use Rattle.catalog.specs.declared.frames.Parts.{Parts}
 use Rattle.bounds.specs.Walk.{placesFrom}
 use Rattle.language.specs.Draft.{Draft, Item, relationCount, width}
 use Rattle.language.specs.Frames.{times, field, ending, fromList, placeField, groupedFrame}
@@ -32,10 +34,6 @@ drop-as frame m n e = ap (λ k. drop k frame) e
 
 pub then-is : {A B : Type 0} {m : Read A} (f : A → Reader B) {a : A} {mid : List ℕ} {x : Read B} → m ≡ Read.ok a mid → f a mid ≡ x → andThen m f ≡ x
 then-is f p q = ap (λ z. andThen z f) p ∙ q
-
--- the part of a frame that is the from list
-pub part-is : (frame : List ℕ) (n : ℕ) → n ≡ getD frame 1 0 → take (n + 2 - 2) (drop 2 frame) ≡ take (getD frame 1 0) (drop 2 frame)
-part-is frame n e = let m : n + 2 - 2 ≡ getD frame 1 0 = omega arith in ap (λ k. take k (drop 2 frame)) m
 
 pub drop-past : (frame : List ℕ) (at : ℕ) → length frame ≤ at → drop (length frame) frame ≡ drop at frame
 drop-past frame at h = drop-length frame ∙ sym (drop-of-length-le frame h)
@@ -58,9 +56,9 @@ times-snoc r (suc c) bs es rest h =
 
 -- ---- the fields of a frame
 
--- a field of the frame behind the from list
-abbrev pub fieldAt : List ℕ → List ℕ → ℕ → ℕ
-fieldAt frame items k = getD frame (length items + k) 0
+-- the counts behind the from list, and where the where condition begins
+abbrev pub partsOf : Bool → List ℕ → Parts
+partsOf grouped frame = partsAfter grouped (getD frame 1 0) frame
 
 pub byte-read : (n : ℕ) (p : ℕ → Bool) (frame : List ℕ) (at b : ℕ) (rest : List ℕ) → byteIf n p (drop at frame) ≡ Read.ok b rest
     → (b ≡ getD frame at 0) × (rest ≡ drop (at + 1) frame) × (p b ≡ true) × (at < length frame)
@@ -95,26 +93,23 @@ bytes-read k p (suc n) (x ∷ bs) fs rest e =
 -- the from list
 pub record From (d : Draft) (frame fs rest : List ℕ) : Type 0 where
   pub few : length fs ≤ 3
-  pub list : fs ≡ take (getD frame 1 0) (drop 2 frame)
-  pub behind : rest ≡ drop (length fs + 2) frame
+  pub list : fs ≡ fromsIn frame
+  pub behind : rest ≡ drop (getD frame 1 0 + 2) frame
   pub earlier : All (λ i. i < relationCount d) fs
-  pub long : getD frame 1 0 + 2 ≤ length frame
 
 pub from-read : (d : Draft) (frame fs rest : List ℕ) → fromList d (drop 1 frame) ≡ Read.ok fs rest → From d frame fs rest
+unfolding fromsIn
 from-read d frame fs rest e =
     let (n, mid, p, q) = then-ok (field 1 3 (drop 1 frame)) _ e in
     let (i, j, t, l) = byte-read 5 (λ b. leb 1 b && leb b 3) frame 1 n mid p in
     let (a, b, h, al) = bytes-read 6 (λ i. ltb i (relationCount d)) n mid fs rest q in
     let three : n ≤ 3 = leb-true n 3 (and-parts (leb 1 n) (leb n 3) t .1) in
     let m : mid ≡ drop 2 frame = j in
-    let size : length fs ≡ n = ap length a ∙ length-take-le n mid h in
-    let room : length mid + 2 ≡ length frame = omega (arith, ap length m, length-drop 2 frame) in
     record {
-      few = omega arith;
+      few = omega (arith, ap length a ∙ length-take-le n mid h);
       list = a ∙ ap₂ take i m;
-      behind = b ∙ ap (drop n) m ∙ drop-drop n 2 frame ∙ drop-as frame (2 + n) (length fs + 2) (omega arith);
+      behind = b ∙ ap (drop n) m ∙ drop-drop n 2 frame ∙ drop-as frame (2 + n) (getD frame 1 0 + 2) (omega arith);
       earlier = all-map (λ x t. ltb-true x (relationCount d) t) al;
-      long = omega arith;
     }
 
 -- the grouping columns
@@ -198,25 +193,27 @@ pub record GroupedRead (d : Draft) (frame : List ℕ) (q : View) : Type 0 where
   pub fs : List ℕ
   pub behind : List ℕ
   pub from : From d frame fs behind
-  pub narrow : fieldAt frame fs 3 ≤ 8
-  pub trees : GroupedTrees d fs (fieldAt frame fs 2) (fieldAt frame fs 3) (drop (length fs + 4) frame) q
+  pub narrow : partsOf true frame .width ≤ 8
+  pub trees : GroupedTrees d fs (partsOf true frame .groups) (partsOf true frame .width) (drop (partsOf true frame .body) frame) q
 
 pub fields-read : (d : Draft) (frame : List ℕ) (q : View) (fs behind : List ℕ) → From d frame fs behind
     → (field 0 4 >>= λ g. field 1 8 >>= λ n. groupedTrees d fs g n) behind ≡ Read.ok (Item.view q) [] → GroupedRead d frame q
+unfolding partsAfter
 fields-read d frame q fs behind F e =
+    let n₀ = getD frame 1 0 in
     let (g, m₁, p₁, q₁) = then-ok (field 0 4 behind) _ e in
-    let (i, j, _, _) = byte-read 5 (λ b. leb 0 b && leb b 4) frame (length fs + 2) g m₁ (ap (field 0 4) (sym (F .behind)) ∙ p₁) in
+    let (i, j, _, _) = byte-read 5 (λ b. leb 0 b && leb b 4) frame (n₀ + 2) g m₁ (ap (field 0 4) (sym (F .behind)) ∙ p₁) in
     let (n, m₂, p₂, q₂) = then-ok (field 1 8 m₁) _ q₁ in
-    let start : m₁ ≡ drop (length fs + 3) frame = j ∙ drop-as frame (length fs + 2 + 1) (length fs + 3) (omega arith) in
-    let (u, v, t, _) = byte-read 5 (λ b. leb 1 b && leb b 8) frame (length fs + 3) n m₂ (ap (field 1 8) (sym start) ∙ p₂) in
-    let start′ : m₂ ≡ drop (length fs + 4) frame = v ∙ drop-as frame (length fs + 3 + 1) (length fs + 4) (omega arith) in
+    let start : m₁ ≡ drop (n₀ + 3) frame = j ∙ drop-as frame (n₀ + 2 + 1) (n₀ + 3) (omega arith) in
+    let (u, v, t, _) = byte-read 5 (λ b. leb 1 b && leb b 8) frame (n₀ + 3) n m₂ (ap (field 1 8) (sym start) ∙ p₂) in
+    let start′ : m₂ ≡ drop (n₀ + 4) frame = v ∙ drop-as frame (n₀ + 3 + 1) (n₀ + 4) (omega arith) in
     record {
       fs = fs;
       behind = behind;
       from = F;
       narrow = subst (λ k. k ≤ 8) u (leb-true n 8 (and-parts (leb 1 n) (leb n 8) t .1));
-      trees = subst (λ k. GroupedTrees d fs k (fieldAt frame fs 3) (drop (length fs + 4) frame) q) i
-          (subst (λ k. GroupedTrees d fs g k (drop (length fs + 4) frame) q) u
+      trees = subst (λ k. GroupedTrees d fs k (getD frame (n₀ + 3) 0) (drop (n₀ + 4) frame) q) i
+          (subst (λ k. GroupedTrees d fs g k (drop (n₀ + 4) frame) q) u
           (subst (λ bs. GroupedTrees d fs g n bs q) start′ (trees-read d fs g n m₂ q q₂)));
     }
 

@@ -3,14 +3,13 @@
 use mathlib.Core.Path.{_≡_, refl, sym, ap, ap₂, subst, _∙_}
 use mathlib.Core.Bool.{Bool, true, false, _&&_, cond, and-assoc}
 use mathlib.Core.List.{List, [], _∷_, _++_, foldr, map, map-append}
-use Prim.Native.Nat.{ℕ, _+_, _-_, _*_, _%_, _≤_, _<_}
+use Prim.Native.Nat.{ℕ, _+_, _*_, _%_, _≤_, _<_}
 use native.Mathlib.Nat.{mul-assoc}
 use native.Mathlib.Numerals.{add-one}
 use native.Mathlib.Omega.{arith}
 use lib.Dec.{leb}
 use lib.IntN.{ℤ}
-use lib.ListN.{length, getD, take, drop, length-drop}
-use lib.Seq.{length-take-le}
+use lib.ListN.{length, getD, drop}
 use borrow.Author.Tests.{leb-true}
 use Rattle.value.specs.Bag.{All}
 use Rattle.value.proofs.Decides.{by-test, and-parts}
@@ -20,11 +19,13 @@ use Rattle.range.specs.declared.Ranged.{Ranged}
 use Rattle.range.specs.declared.Ranged.the-variants.{Within, Beyond}
 use Rattle.meaning.specs.Lists.{all}
 use Rattle.meaning.specs.Syntax.{Expr, Cond, Place, View}
-use Rattle.language.specs.Reading.{Read, Reader, andThen, readE, readC}
+use Rattle.language.specs.Reading.{Read, readE, readC}
 use Rattle.meaning.specs.Bounds.{Schema, schema, viewSchema, itemRanges, productBound, range, withinE, withinC, allowedE, allowedC, anyColumn, groupingColumn}
 use Rattle.meaning.proofs.Elements.{all-given, map-same}
 use Rattle.language.proofs.Readers.{then-ok}
 use Rattle.catalog.specs.Arrays.{widthAt, boundAt, rangesFrom, rangesIn, itemsIn, putRange, putShape, Outside}
+use Rattle.catalog.specs.Frames.{fromsIn, partsAfter}
+use Rattle.catalog.specs.declared.frames.Parts.{Parts}
 use Rattle.bounds.specs.Walk.{placesFrom, columnsOf, widthsIn, rangedE, isWithin, SizesE, TestsC}
 use Rattle.bounds.specs.declared.Rule.{Rule}
 use Rattle.bounds.specs.declared.Sized.{Sized}
@@ -33,32 +34,32 @@ use Rattle.bounds.proofs.Parts.{ranged-is}
 use Rattle.language.specs.Draft.{Draft, Item, added, relationCount, schemasOf, width}
 use Rattle.language.specs.Frames.{times, field, fromList, placeField, basicFrame, groupedFrame, wholeFault}
 use Rattle.checker.specs.Catalogued.{Catalogued}
-use Rattle.checker.specs.ViewRules.{factorAt, productOf, Product, putRanged, viewFault, Room, Selects, Answer, Tail, Rules}
+use Rattle.checker.specs.ViewRules.{factorAt, productOf, Product, putRanged, viewFault, EntryRoom, Selects, RuledAs, Tail, Rules}
 use Rattle.checker.specs.declared.view_rules.Ruled.{Ruled}
 use Rattle.catalog.proofs.ArrayLaws.{put-length, put-next, put-outside, outside-same, outside-more, outside-ranges}
 use Rattle.checker.proofs.EntryLaws.{view-entered}
 use Rattle.checker.proofs.FixedLaws.{bound-known}
 use Rattle.checker.proofs.ViewByteLaws.{widths-are}
-use Rattle.checker.proofs.ViewFields.{fieldAt, all-snoc, drop-as, part-is, times-snoc, byte-read, from-read, places-read, view-read, GroupedRead, grouped-read}
+use Rattle.checker.proofs.ViewFields.{partsOf, all-snoc, drop-as, times-snoc, byte-read, from-read, places-read, view-read, GroupedRead, grouped-read}
 
--- ---- the answer for a frame whose from list is `items`
+-- ---- the answer for a frame whose from list is `items` and whose other parts are P
 
-record BasicOf (frame items shape : List ℕ) (ends : List ℤ) (r : ℕ) (ends′ : List ℤ) (a : Ruled) : Type 0 where
-  ruled : Room shape ends items r → length items ≤ 3 → fieldAt frame items 2 ≤ 8 → (w : Cond) (es : List Expr) (mid rest : List ℕ)
-      → readC (widthsIn shape items) (drop (length items + 3) frame) ≡ Read.ok w mid
-      → times (fieldAt frame items 2) (readE (widthsIn shape items)) mid ≡ Read.ok es rest
+record BasicOf (frame : List ℕ) (P : Parts) (items shape : List ℕ) (ends : List ℤ) (r : ℕ) (ends′ : List ℤ) (a : Ruled) : Type 0 where
+  ruled : EntryRoom shape ends items r → length items ≤ 3 → P .width ≤ 8 → (w : Cond) (es : List Expr) (mid rest : List ℕ)
+      → readC (widthsIn shape items) (drop (P .body) frame) ≡ Read.ok w mid
+      → times (P .width) (readE (widthsIn shape items)) mid ≡ Read.ok es rest
       → let I = itemsIn shape ends items in let R = productOf shape items in
-      Answer (allowedC anyColumn false w && all (allowedE anyColumn false) es) (withinC I R w && all (withinE I R) es) es I R r ends ends′ a
+      RuledAs (allowedC anyColumn false w && all (allowedE anyColumn false) es) (withinC I R w && all (withinE I R) es) es I R r ends ends′ a
 
-record GroupedOf (frame items shape : List ℕ) (ends : List ℤ) (r : ℕ) (ends′ : List ℤ) (a : Ruled) : Type 0 where
-  ruled : Room shape ends items r → length items ≤ 3 → fieldAt frame items 3 ≤ 8 → (w : Cond) (gs : List Place) (h : Cond) (es : List Expr)
+record GroupedOf (frame : List ℕ) (P : Parts) (items shape : List ℕ) (ends : List ℤ) (r : ℕ) (ends′ : List ℤ) (a : Ruled) : Type 0 where
+  ruled : EntryRoom shape ends items r → length items ≤ 3 → P .width ≤ 8 → (w : Cond) (gs : List Place) (h : Cond) (es : List Expr)
       (mid mid′ mid″ rest : List ℕ)
-      → readC (widthsIn shape items) (drop (length items + 4) frame) ≡ Read.ok w mid
-      → times (fieldAt frame items 2) (placeField (widthsIn shape items)) mid ≡ Read.ok gs mid′
+      → readC (widthsIn shape items) (drop (P .body) frame) ≡ Read.ok w mid
+      → times (P .groups) (placeField (widthsIn shape items)) mid ≡ Read.ok gs mid′
       → readC (widthsIn shape items) mid′ ≡ Read.ok h mid″
-      → times (fieldAt frame items 3) (readE (widthsIn shape items)) mid″ ≡ Read.ok es rest
+      → times (P .width) (readE (widthsIn shape items)) mid″ ≡ Read.ok es rest
       → let I = itemsIn shape ends items in let R = productOf shape items in
-      Answer (allowedC anyColumn false w && (allowedC (groupingColumn gs) true h && all (allowedE (groupingColumn gs) true) es))
+      RuledAs (allowedC anyColumn false w && (allowedC (groupingColumn gs) true h && all (allowedE (groupingColumn gs) true) es))
       (withinC I R w && (withinC I R h && all (withinE I R) es)) es I R r ends ends′ a
 
 -- ---- the row bound
@@ -179,9 +180,9 @@ tail-ruled frame head count items shape ends r rule ends′ a allowed within s f
       };
 }
 
-answer-as : {A A′ W W′ : Bool} {es : List Expr} {I : List (List Range)} {R r : ℕ} {ends ends′ : List ℤ} {a : Ruled} → A ≡ A′ → W ≡ W′
-    → Answer A W es I R r ends ends′ a → Answer A′ W′ es I R r ends ends′ a
-answer-as {es = es} {I = I} {R = R} {r = r} {ends = ends} {ends′ = ends′} {a = a} p q x = rw (← p, ← q) x
+ruled-as : {A A′ W W′ : Bool} {es : List Expr} {I : List (List Range)} {R r : ℕ} {ends ends′ : List ℤ} {a : Ruled} → A ≡ A′ → W ≡ W′
+    → RuledAs A W es I R r ends ends′ a → RuledAs A′ W′ es I R r ends ends′ a
+ruled-as {es = es} {I = I} {R = R} {r = r} {ends = ends} {ends′ = ends′} {a = a} p q x = rw (← p, ← q) x
 
 abbrev pub plainRule : ℕ → Rule
 plainRule bound = record { bound = bound; grouped = false; places = 0; count = 0 }
@@ -189,42 +190,40 @@ plainRule bound = record { bound = bound; grouped = false; places = 0; count = 0
 abbrev pub groupedRule : ℕ → ℕ → ℕ → Rule
 groupedRule bound places g = record { bound = bound; grouped = true; places = places; count = g }
 
-module _ (frame items shape : List ℕ) (ends : List ℤ) (r : ℕ) (ends′ : List ℤ) (a : Ruled) (bound : ℕ) (w′ : Tested) (product : Product shape items bound) where
+module _ (frame : List ℕ) (P : Parts) (items shape : List ℕ) (ends : List ℤ) (r : ℕ) (ends′ : List ℤ) (a : Ruled) (bound : ℕ) (w′ : Tested)
+    (product : Product shape items bound) (rule : Rule) (re : rule ≡ plainRule bound) (t : TestsC frame (P .body) items shape ends rule w′) where
   I : List (List Range)
   I = itemsIn shape ends items
 
-  basic-ruled : (rule : Rule) (count : ℕ) → rule ≡ plainRule bound → count ≡ fieldAt frame items 2
-      → TestsC frame (length items + 3) items shape ends rule w′ → Tail frame w′ count items shape ends r rule ends′ a → BasicOf frame items shape ends r ends′ a
+  plain-tests : TestsC frame (P .body) items shape ends (plainRule bound) w′
+  plain-tests = subst (λ k. TestsC frame (P .body) items shape ends k w′) re t
+
+  basic-ruled : Tail frame w′ (P .width) items shape ends r rule ends′ a → BasicOf frame P items shape ends r ends′ a
   unfolding I columnsOf
-  basic-ruled rule count re ce t s = record {
+  basic-ruled s = record {
     ruled = λ room few narrow w es mid rest readW readS.
-        let t′ = subst (λ k. TestsC frame (length items + 3) items shape ends k w′) re t in
-        let s′ = subst (λ k. Tail frame w′ count items shape ends r k ends′ a) re s in
-        let (next, al, wi) = t′ .tests w mid readW in
-        let read : times count (readE (widthsIn shape items)) (drop (w′ .next) frame) ≡ Read.ok es rest =
-        ap₂ (λ k bs. times k (readE (widthsIn shape items)) bs) ce next ∙ readS in
-        let x = s′ .ruled room (rw ce narrow) es rest read in
-        subst (λ R. Answer (allowedC anyColumn false w && all (allowedE anyColumn false) es) (withinC I R w && all (withinE I R) es) es I R r ends ends′ a)
+        let s′ = subst (λ k. Tail frame w′ (P .width) items shape ends r k ends′ a) re s in
+        let (next, al, wi) = plain-tests .tests w mid readW in
+        let x = s′ .ruled room narrow es rest (ap (times (P .width) (readE (widthsIn shape items))) next ∙ readS) in
+        subst (λ R. RuledAs (allowedC anyColumn false w && all (allowedE anyColumn false) es) (withinC I R w && all (withinE I R) es) es I R r ends ends′ a)
         (product .product few)
-        (answer-as (ap (λ b. b && all (allowedE anyColumn false) es) al) (ap (λ b. b && all (withinE I bound) es) wi) x);
+        (ruled-as (ap (λ b. b && all (allowedE anyColumn false) es) al) (ap (λ b. b && all (withinE I bound) es) wi) x);
   }
 
-  grouped-ruled : (rule : Rule) (g count places : ℕ) (h′ head : Tested) → rule ≡ plainRule bound → g ≡ fieldAt frame items 2 → count ≡ fieldAt frame items 3
-      → head ≡ record { next = h′ .next; allowed = w′ .allowed && h′ .allowed; within = w′ .within && h′ .within }
-      → TestsC frame (length items + 4) items shape ends rule w′ → drop places frame ≡ drop (w′ .next) frame
-      → TestsC frame (places + 2 * g) items shape ends (groupedRule bound places g) h′
-      → Tail frame head count items shape ends r (groupedRule bound places g) ends′ a → GroupedOf frame items shape ends r ends′ a
+  grouped-ruled : (places : ℕ) (h′ head : Tested)
+      → head ≡ record { next = h′ .next; allowed = w′ .allowed && h′ .allowed; within = w′ .within && h′ .within } → drop places frame ≡ drop (w′ .next) frame
+      → TestsC frame (places + 2 * P .groups) items shape ends (groupedRule bound places (P .groups)) h′
+      → Tail frame head (P .width) items shape ends r (groupedRule bound places (P .groups)) ends′ a → GroupedOf frame P items shape ends r ends′ a
   unfolding I columnsOf
-  grouped-ruled rule g count places h′ head re ge ce he t at u s = record {
+  grouped-ruled places h′ head he at u s = record {
     ruled = λ room few narrow w gs h es mid mid′ mid″ rest readW readG readH readS.
         let cols = widthsIn shape items in
-        let t′ = subst (λ k. TestsC frame (length items + 4) items shape ends k w′) re t in
-        let s′ = subst (λ k. Tail frame k count items shape ends r (groupedRule bound places g) ends′ a) he s in
-        let (next, al, wi) = t′ .tests w mid readW in
-        let (gp, gr) = places-read cols frame g places gs mid′ (ap₂ (λ k bs. times k (placeField cols) bs) ge (at ∙ next) ∙ readG) in
+        let s′ = subst (λ k. Tail frame k (P .width) items shape ends r (groupedRule bound places (P .groups)) ends′ a) he s in
+        let (next, al, wi) = plain-tests .tests w mid readW in
+        let (gp, gr) = places-read cols frame (P .groups) places gs mid′ (ap (times (P .groups) (placeField cols)) (at ∙ next) ∙ readG) in
         let (next′, al′, wi′) = u .tests h mid″ (ap (readC cols) (sym gr) ∙ readH) in
-        let x = s′ .ruled room (rw ce narrow) es rest (ap₂ (λ k bs. times k (readE cols) bs) ce next′ ∙ readS) in
-        let G = groupingColumn (placesFrom frame places g) in
+        let x = s′ .ruled room narrow es rest (ap (times (P .width) (readE cols)) next′ ∙ readS) in
+        let G = groupingColumn (placesFrom frame places (P .groups)) in
         let fit : ((w′ .allowed && h′ .allowed) && all (allowedE G true) es)
         ≡ (allowedC anyColumn false w && (allowedC (groupingColumn gs) true h && all (allowedE (groupingColumn gs) true) es)) =
         and-assoc (w′ .allowed) (h′ .allowed) (all (allowedE G true) es)
@@ -233,9 +232,9 @@ module _ (frame items shape : List ℕ) (ends : List ℤ) (r : ℕ) (ends′ : L
         let within : ((w′ .within && h′ .within) && all (withinE I bound) es) ≡ (withinC I bound w && (withinC I bound h && all (withinE I bound) es)) =
         and-assoc (w′ .within) (h′ .within) (all (withinE I bound) es)
         ∙ ap₂ (λ b c. b && (c && all (withinE I bound) es)) wi wi′ in
-        subst (λ R. Answer (allowedC anyColumn false w && (allowedC (groupingColumn gs) true h && all (allowedE (groupingColumn gs) true) es))
+        subst (λ R. RuledAs (allowedC anyColumn false w && (allowedC (groupingColumn gs) true h && all (allowedE (groupingColumn gs) true) es))
         (withinC I R w && (withinC I R h && all (withinE I R) es)) es I R r ends ends′ a)
-        (product .product few) (answer-as fit within x);
+        (product .product few) (ruled-as fit within x);
   }
 
 -- ---- from the arrays to the draft
@@ -266,13 +265,13 @@ module _ (d : Draft) {shape : List ℕ} {ends : List ℤ} (c : Catalogued d shap
       ap (foldr _*_ 1) (map-same (λ i. schema (schemasOf d) i .bound) (boundAt shape) (all-given (bound-known c) fs))
 
   module _ (r : ℕ) (e : r ≡ relationCount d) (l : r < 16) where
-    room-for : (fs : List ℕ) → All (λ i. i < relationCount d) fs → Room shape ends fs r
+    room-for : (fs : List ℕ) → All (λ i. i < relationCount d) fs → EntryRoom shape ends fs r
     room-for fs h = record { place = l; size = c .ends-size; widths = c .widths; earlier = all-map (λ x k. omega arith) h }
 
-    answer-rules : (ends′ : List ℤ) (a : Ruled) (q : View) (A W : Bool) (es : List Expr) (I : List (List Range)) (R : ℕ)
+    ruling-of : (ends′ : List ℤ) (a : Ruled) (q : View) (A W : Bool) (es : List Expr) (I : List (List Range)) (R : ℕ)
         → wholeFault d (Item.view q) ≡ viewFault A R W → viewSchema (schemasOf d) q ≡ record { bound = R; ranges = map (range I R) es }
-        → Answer A W es I R r ends ends′ a → Ruling d r shape ends′ a q
-    answer-rules ends′ a q A W es I R f v x = record {
+        → RuledAs A W es I R r ends ends′ a → Ruling d r shape ends′ a q
+    ruling-of ends′ a q A W es I R f v x = record {
       fault = x .fault ∙ sym f;
       entered = λ z.
           let (small, t) = no-fault A R W (sym f ∙ z) in
@@ -281,109 +280,74 @@ module _ (d : Draft) {shape : List ℕ} {ends : List ℤ} (c : Catalogued d shap
           (v ∙ ap₂ (λ k rs. record { bound = k; ranges = rs }) b (sym (x .ranges t)));
     }
 
-    module _ (ends′ : List ℤ) (a : Ruled) (q : View) (frame items : List ℕ) (list : items ≡ take (getD frame 1 0) (drop 2 frame)) where
-      basic-ruling : BasicOf frame items shape ends r ends′ a → basicFrame d (drop 1 frame) ≡ Read.ok (Item.view q) [] → Ruling d r shape ends′ a q
-      unfolding viewFault
-      basic-ruling B h =
+    module _ (ends′ : List ℤ) (a : Ruled) (q : View) (frame : List ℕ) (P : Parts) (items : List ℕ) (list : items ≡ fromsIn frame) where
+      basic-ruling : P ≡ partsOf false frame → BasicOf frame P items shape ends r ends′ a → basicFrame d (drop 1 frame) ≡ Read.ok (Item.view q) []
+          → Ruling d r shape ends′ a q
+      unfolding viewFault partsAfter
+      basic-ruling pe B h =
           let (fs, m₁, p₁, q₁) = then-ok (fromList d (drop 1 frame)) _ h in
           let F = from-read d frame fs m₁ p₁ in
+          let n₀ = getD frame 1 0 in
           let (n, m₂, p₂, q₂) = then-ok (field 1 8 m₁) _ q₁ in
-          let (i, j, t, _) = byte-read 5 (λ b. leb 1 b && leb b 8) frame (length fs + 2) n m₂ (ap (field 1 8) (sym (F .behind)) ∙ p₂) in
+          let (i, j, t, _) = byte-read 5 (λ b. leb 1 b && leb b 8) frame (n₀ + 2) n m₂ (ap (field 1 8) (sym (F .behind)) ∙ p₂) in
           let (w, m₃, p₃, q₃) = then-ok (readC (map (width d) fs) m₂) _ q₂ in
           let (es, m₄, p₄, q₄) = then-ok (times n (readE (map (width d) fs)) m₃) _ q₃ in
           let same : View.basic fs w es ≡ q = view-read (View.basic fs w es) q m₄ [] q₄ in
-          let B′ = subst (λ k. BasicOf frame k shape ends r ends′ a) (list ∙ sym (F .list)) B in
-          let start : m₂ ≡ drop (length fs + 3) frame = j ∙ drop-as frame (length fs + 2 + 1) (length fs + 3) (omega arith) in
-          let readW : readC (widthsIn shape fs) (drop (length fs + 3) frame) ≡ Read.ok w m₃ = ap₂ readC (sym (widths-are c fs)) (sym start) ∙ p₃ in
-          let readS : times (fieldAt frame fs 2) (readE (widthsIn shape fs)) m₃ ≡ Read.ok es m₄ =
+          let B′ = subst (λ k. BasicOf frame (partsOf false frame) k shape ends r ends′ a) (list ∙ sym (F .list))
+          (subst (λ (p : Parts). BasicOf frame p items shape ends r ends′ a) pe B) in
+          let start : m₂ ≡ drop (n₀ + 3) frame = j ∙ drop-as frame (n₀ + 2 + 1) (n₀ + 3) (omega arith) in
+          let readW : readC (widthsIn shape fs) (drop (n₀ + 3) frame) ≡ Read.ok w m₃ = ap₂ readC (sym (widths-are c fs)) (sym start) ∙ p₃ in
+          let readS : times (getD frame (n₀ + 2) 0) (readE (widthsIn shape fs)) m₃ ≡ Read.ok es m₄ =
           ap₂ (λ k cols. times k (readE cols) m₃) (sym i) (sym (widths-are c fs)) ∙ p₄ in
-          let few : fieldAt frame fs 2 ≤ 8 = rw (← i) (leb-true n 8 (and-parts (leb 1 n) (leb n 8) t .1)) in
+          let few : getD frame (n₀ + 2) 0 ≤ 8 = rw (← i) (leb-true n 8 (and-parts (leb 1 n) (leb n 8) t .1)) in
           let A = allowedC anyColumn false w && all (allowedE anyColumn false) es in
           subst (Ruling d r shape ends′ a) same
-          (answer-rules ends′ a (View.basic fs w es) _ _ es (itemsIn shape ends fs) (productOf shape fs)
+          (ruling-of ends′ a (View.basic fs w es) _ _ es (itemsIn shape ends fs) (productOf shape fs)
           (ap₂ (λ R I. cond A (cond (leb R 64) (cond (withinC I R w && all (withinE I R) es) 0 9) 8) 7) (product-is fs) (ranges-are fs))
           (ap₂ (λ R I. record { bound = R; ranges = map (range I R) es }) (product-is fs) (ranges-are fs))
           (B′ .ruled (room-for fs (F .earlier)) (F .few) few w es m₃ m₄ readW readS))
 
-      grouped-ruling : GroupedOf frame items shape ends r ends′ a → GroupedRead d frame q → Ruling d r shape ends′ a q
+      grouped-ruling : P ≡ partsOf true frame → GroupedOf frame P items shape ends r ends′ a → GroupedRead d frame q → Ruling d r shape ends′ a q
       unfolding viewFault
-      grouped-ruling B G =
+      grouped-ruling pe B G =
           let fs = G .fs in
           let T = G .trees in
+          let p = partsOf true frame in
           let A = allowedC anyColumn false (T .w) && (allowedC (groupingColumn (T .gs)) true (T .h) && all (allowedE (groupingColumn (T .gs)) true) (T .es)) in
-          let B′ = subst (λ k. GroupedOf frame k shape ends r ends′ a) (list ∙ sym (G .from .list)) B in
+          let B′ = subst (λ k. GroupedOf frame p k shape ends r ends′ a) (list ∙ sym (G .from .list))
+          (subst (λ (p : Parts). GroupedOf frame p items shape ends r ends′ a) pe B) in
           let W = sym (widths-are c fs) in
           subst (Ruling d r shape ends′ a) (T .same)
-          (answer-rules ends′ a (View.grouped fs (T .w) (T .gs) (T .h) (T .es)) _ _ (T .es) (itemsIn shape ends fs) (productOf shape fs)
+          (ruling-of ends′ a (View.grouped fs (T .w) (T .gs) (T .h) (T .es)) _ _ (T .es) (itemsIn shape ends fs) (productOf shape fs)
           (ap₂ (λ R I. cond A (cond (leb R 64) (cond (withinC I R (T .w) && (withinC I R (T .h) && all (withinE I R) (T .es))) 0 9) 8) 7)
           (product-is fs) (ranges-are fs))
           (ap₂ (λ R I. record { bound = R; ranges = map (range I R) (T .es) }) (product-is fs) (ranges-are fs))
           (B′ .ruled (room-for fs (G .from .earlier)) (G .from .few) (G .narrow) (T .w) (T .gs) (T .h) (T .es) (T .mid) (T .mid′) (T .mid″) (T .rest)
-          (ap (λ cols. readC cols (drop (length fs + 4) frame)) W ∙ T .readW)
-          (ap (λ cols. times (fieldAt frame fs 2) (placeField cols) (T .mid)) W ∙ T .readG)
+          (ap (λ cols. readC cols (drop (p .body) frame)) W ∙ T .readW)
+          (ap (λ cols. times (p .groups) (placeField cols) (T .mid)) W ∙ T .readG)
           (ap (λ cols. readC cols (T .mid′)) W ∙ T .readH)
-          (ap (λ cols. times (fieldAt frame fs 3) (readE cols) (T .mid″)) W ∙ T .readS)))
+          (ap (λ cols. times (p .width) (readE cols) (T .mid″)) W ∙ T .readS)))
 
 -- ---- the whole frame
 
-module _ (frame : List ℕ) (r : ℕ) (shape : List ℕ) (ends ends′ : List ℤ) (a : Ruled) where
-  -- the from list, where it ends, the row bound and the answer for the where
-  module _ (n : ℕ) (list : n ≡ getD frame 1 0) (long : n + 2 ≤ length frame) (bound : ℕ) (w : Tested)
-      (product : Product shape (take (n + 2 - 2) (drop 2 frame)) bound) where
-    abbrev items : List ℕ
-    items = take (n + 2 - 2) (drop 2 frame)
+-- from the from list, the other parts, the row bound and the answer for the where
+module _ (frame : List ℕ) (r : ℕ) (shape : List ℕ) (ends ends′ : List ℤ) (a : Ruled) (items : List ℕ) (P : Parts) (bound : ℕ) (w : Tested) (rule : Rule)
+    (list : items ≡ fromsIn frame) (product : Product shape items bound) (re : rule ≡ plainRule bound) (t : TestsC frame (P .body) items shape ends rule w) where
+  pub basic-rules : P ≡ partsOf false frame → Tail frame w (P .width) items shape ends r rule ends′ a → Rules basicFrame frame r shape ends ends′ a
+  basic-rules pe s =
+      let B = basic-ruled frame P items shape ends r ends′ a bound w product rule re t s in
+      record {
+        fault = λ d q c e l h. basic-ruling d c r e l ends′ a q frame P items list pe B h .fault;
+        entered = λ d q c e l h. basic-ruling d c r e l ends′ a q frame P items list pe B h .entered;
+      }
 
-    size : length items ≡ n
-    size = let m : n + 2 - 2 ≡ n = omega arith in
-        ap (λ k. length (take k (drop 2 frame))) m ∙ length-take-le n (drop 2 frame) (omega (arith, length-drop 2 frame))
-
-    -- a place behind the from list
-    place : (k m : ℕ) → n + 2 + k ≡ n + m → n + 2 + k ≡ length items + m
-    place k m e = e ∙ ap (λ j. j + m) (sym size)
-
-    pub basic-rules : (rule : Rule) (count : ℕ) → rule ≡ plainRule bound → count ≡ getD frame (n + 2) 0
-        → TestsC frame (n + 2 + 1) items shape ends rule w → Tail frame w count items shape ends r rule ends′ a → Rules basicFrame frame r shape ends ends′ a
-    basic-rules rule count re ce t s =
-        let first : n + 2 ≡ length items + 2 = ap (λ j. j + 2) (sym size) in
-        let B = basic-ruled frame items shape ends r ends′ a bound w product rule count re (ce ∙ ap (λ k. getD frame k 0) first)
-        (subst (λ k. TestsC frame k items shape ends rule w) (place 1 3 (omega arith)) t) s in
-        record {
-          fault = λ d q c e l h. basic-ruling d c r e l ends′ a q frame items (part-is frame n list) B h .fault;
-          entered = λ d q c e l h. basic-ruling d c r e l ends′ a q frame items (part-is frame n list) B h .entered;
-        }
-
-    pub grouped-rules : (rule : Rule) (g count places : ℕ) (h′ head : Tested) → rule ≡ plainRule bound → g ≡ getD frame (n + 2) 0
-        → count ≡ getD frame (n + 2 + 1) 0 → head ≡ record { next = h′ .next; allowed = w .allowed && h′ .allowed; within = w .within && h′ .within }
-        → TestsC frame (n + 2 + 2) items shape ends rule w → drop places frame ≡ drop (w .next) frame
-        → TestsC frame (places + 2 * g) items shape ends (groupedRule bound places g) h′
-        → Tail frame head count items shape ends r (groupedRule bound places g) ends′ a → Rules groupedFrame frame r shape ends ends′ a
-    grouped-rules rule g count places h′ head re ge ce he t at u s =
-        let first : n + 2 ≡ length items + 2 = ap (λ j. j + 2) (sym size) in
-        let B = grouped-ruled frame items shape ends r ends′ a bound w product rule g count places h′ head re (ge ∙ ap (λ k. getD frame k 0) first)
-        (ce ∙ ap (λ k. getD frame k 0) (place 1 3 (omega arith))) he
-        (subst (λ k. TestsC frame k items shape ends rule w) (place 2 4 (omega arith)) t) at u s in
-        record {
-          fault = λ d q c e l h. grouped-ruling d c r e l ends′ a q frame items (part-is frame n list) B (grouped-read d frame q h) .fault;
-          entered = λ d q c e l h. grouped-ruling d c r e l ends′ a q frame items (part-is frame n list) B (grouped-read d frame q h) .entered;
-        }
-
-  -- a frame that ends in its from list is none
-  module _ (short : length frame < getD frame 1 0 + 2) where
-    no-list : {P : Type 0} (d : Draft) (k : List ℕ → Reader Item) (q : Item) (rest : List ℕ)
-        → _≡_ {A = Read Item} (andThen (fromList d (drop 1 frame)) k) (Read.ok q rest) → P
-    no-list d k q rest h =
-        let (fs, m, p, _) = then-ok (fromList d (drop 1 frame)) k h in
-        let F = from-read d frame fs m p in
-        absurd (omega (arith, F .long))
-
-    pub basic-short : Rules basicFrame frame r shape ends ends′ a
-    basic-short = record {
-      fault = λ d q c e l h. no-list d _ (Item.view q) [] h;
-      entered = λ d q c e l h. no-list d _ (Item.view q) [] h;
-    }
-
-    pub grouped-short : Rules groupedFrame frame r shape ends ends′ a
-    grouped-short = record {
-      fault = λ d q c e l h. no-list d _ (Item.view q) [] h;
-      entered = λ d q c e l h. no-list d _ (Item.view q) [] h;
-    }
+  pub grouped-rules : P ≡ partsOf true frame → (places : ℕ) (h′ head : Tested)
+      → head ≡ record { next = h′ .next; allowed = w .allowed && h′ .allowed; within = w .within && h′ .within } → drop places frame ≡ drop (w .next) frame
+      → TestsC frame (places + 2 * P .groups) items shape ends (groupedRule bound places (P .groups)) h′
+      → Tail frame head (P .width) items shape ends r (groupedRule bound places (P .groups)) ends′ a → Rules groupedFrame frame r shape ends ends′ a
+  grouped-rules pe places h′ head he at u s =
+      let B = grouped-ruled frame P items shape ends r ends′ a bound w product rule re t places h′ head he at u s in
+      record {
+        fault = λ d q c e l h. grouped-ruling d c r e l ends′ a q frame P items list pe B (grouped-read d frame q h) .fault;
+        entered = λ d q c e l h. grouped-ruling d c r e l ends′ a q frame P items list pe B (grouped-read d frame q h) .entered;
+      }

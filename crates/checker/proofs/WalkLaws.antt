@@ -1,25 +1,26 @@
 -- The walk over packed frames.
---     Head    the frame at a place of the packed bytes
 --     Left    the frames that are left, and the draft that those before them make
 -- Assumes nothing.
 use mathlib.Core.Path.{_≡_, refl, sym, ap, subst, _∙_}
-use mathlib.Core.List.{List, [], _∷_, _++_}
+use mathlib.Core.List.{List, [], _∷_, _++_, append-assoc}
 use Prim.Native.Nat.{ℕ, zero, suc, _+_, _-_, _≤_, _<_}
-use native.Mathlib.Numerals.{add-one}
 use native.Mathlib.Omega.{arith}
 use lib.Dec.{eqb}
 use lib.IntN.{ℤ}
-use lib.ListN.{length, getD, take, drop, set, length-append, length-drop, length-set, drop-of-length-le}
-use lib.Seq.{drop-cons, drop-drop, take-at, drop-at, getD-set-same, getD-set-other}
+use lib.ListN.{length, getD, drop, set, length-drop, length-set, drop-of-length-le}
+use lib.Seq.{getD-set-same, getD-set-other}
 use borrow.Author.Tests.{eqb-true, eqb-false}
 use Rattle.value.proofs.Decides.{by-test}
+use Rattle.value.proofs.Places.{byte-here}
 use Rattle.text.specs.Answers.{pack}
 use Rattle.language.specs.Draft.{Draft, empty}
 use Rattle.language.specs.Check.{Checked, checkFrame, Reached, onward, reach}
+use Rattle.catalog.specs.Frames.{frameAt}
+use Rattle.catalog.proofs.FrameLaws.{pack-cons, frame-here}
 use Rattle.checker.specs.Catalogued.{checkedFault}
-use Rattle.checker.specs.Standing.{Held, Stepped, startState}
+use Rattle.checker.specs.Standing.{DraftIn, Stepped, startProgress}
 use Rattle.checker.specs.Plans.{WalkedTo, startFrom, frameOf, Starts}
-use Rattle.checker.specs.declared.state.State.{State}
+use Rattle.checker.specs.declared.state.Progress.{Progress}
 use Rattle.checker.specs.declared.step.Step.{Step}
 use Rattle.language.proofs.Steps.{Looked, looked}
 
@@ -28,48 +29,29 @@ no z = absurd (omega arith)
 
 -- ---- the frame at a place
 
-record Head (packed : List ℕ) (at : ℕ) (rest : List (List ℕ)) : Type 0 where
-  frame : List ℕ
+-- f is the first of the frames that are left
+record Head (packed : List ℕ) (at : ℕ) (f : List ℕ) (rest : List (List ℕ)) : Type 0 where
   others : List (List ℕ)
-  split : rest ≡ frame ∷ others
-  size : getD packed at 0 ≡ length frame
-  tail : drop (at + 1) packed ≡ frame ++ pack others
+  split : rest ≡ f ∷ others
+  next : drop (at + 1 + length f) packed ≡ pack others
 
-head-of : (packed : List ℕ) (at : ℕ) (rest : List (List ℕ)) → at < length packed → drop at packed ≡ pack rest → Head packed at rest
+head-of : (packed : List ℕ) (at : ℕ) (f : List ℕ) (rest : List (List ℕ)) → at < length packed → f ≡ frameAt packed at → drop at packed ≡ pack rest
+    → Head packed at f rest
 unfolding pack
-head-of packed at rest h e = go rest (sym here ∙ e)
-  where
-    here : drop at packed ≡ getD packed at 0 ∷ drop (at + 1) packed
-    here = rw (add-one, drop-cons packed at 0)
-
-    go : (r : List (List ℕ)) → getD packed at 0 ∷ drop (at + 1) packed ≡ pack r → Head packed at r
-    go [] q = no cc
-    go (f ∷ fs) q = record { frame = f; others = fs; split = refl; size = cc; tail = cc }
-
--- the bytes of the frame at a place
-abbrev pub frameAt : List ℕ → ℕ → List ℕ
-frameAt packed at = take (at + 1 + getD packed at 0 - (at + 1)) (drop (at + 1) packed)
-
-module _ {packed : List ℕ} {at : ℕ} {rest : List (List ℕ)} (h : Head packed at rest) where
-  head-fits : getD packed at 0 ≤ length packed - (at + 1)
-  head-fits = omega (arith, h .size, simp (length-drop, length-append) at (ap length (h .tail)))
-
-  head-frame : frameAt packed at ≡ h .frame
-  head-frame =
-      let n : at + 1 + getD packed at 0 - (at + 1) ≡ length (h .frame) = omega (arith, h .size) in
-      rw (h .tail) (take-at (h .frame) (pack (h .others)) _ (sym n))
-
-  head-next : drop (at + 1 + getD packed at 0) packed ≡ pack (h .others)
-  head-next = rw (← drop-drop, h .tail) (drop-at (h .frame) (pack (h .others)) _ (sym (h .size)))
+head-of packed at f [] h is e = absurd (omega (arith, ap length e, length-drop at packed))
+head-of packed at f (g ∷ fs) h is e =
+    let (here, next) = frame-here packed at g (pack fs) e in
+    let same : f ≡ g = is ∙ here in
+    record { others = fs; split = ap (λ (x : List ℕ). x ∷ fs) (sym same); next = ap (λ (x : List ℕ). drop (at + 1 + length x) packed) same ∙ next }
 
 -- ---- one turn of the walk
 
-pub record Left (packed : List ℕ) (s : State) (shape : List ℕ) (ends : List ℤ) (at line : ℕ) (fs : List (List ℕ)) : Type 0 where
+pub record Left (packed : List ℕ) (s : Progress) (shape : List ℕ) (ends : List ℤ) (at line : ℕ) (fs : List (List ℕ)) : Type 0 where
   pub rest : List (List ℕ)
   pub draft : Draft
   pub bytes : drop at packed ≡ pack rest
   pub same : reach fs empty 1 ≡ reach rest draft (suc line)
-  pub held : Held draft s shape ends
+  pub held : DraftIn draft s shape ends
 
 -- a draft with no fault goes on
 next-of : {d : Draft} {f : List ℕ} {c : Checked} → Looked d f c → checkedFault c ≡ 0 → (e : Draft) × (c ≡ Checked.next e)
@@ -80,37 +62,39 @@ fault-of : (c : Checked) {n : ℕ} → n ≡ checkedFault c → (n ≡ 0 → ⊥
 fault-of (Checked.fault m) e z = ap Checked.fault (sym e)
 fault-of (Checked.next d) e z = absurd (z e)
 
-module _ (packed : List ℕ) (s : State) (shape : List ℕ) (ends : List ℤ) (at line : ℕ) (fs : List (List ℕ)) (h : Left packed s shape ends at line fs) where
-  front : at < length packed → Head packed at (h .rest)
-  front k = head-of packed at (h .rest) k (h .bytes)
+module _ (packed : List ℕ) (s : Progress) (shape : List ℕ) (ends : List ℤ) (at line : ℕ) (fs : List (List ℕ)) (h : Left packed s shape ends at line fs) where
+  module _ (k : at < length packed) (f : List ℕ) (is : f ≡ frameAt packed at) where
+    front : Head packed at f (h .rest)
+    front = head-of packed at f (h .rest) k is (h .bytes)
 
-  pub never-short : at < length packed → length packed - (at + 1) < getD packed at 0 → ⊥
-  never-short k l = let f = head-fits (front k) in omega arith
+    -- the rest of the walk
+    onwards : Checked → Reached
+    onwards = onward (λ e. reach (front .others) e (suc (suc line))) (suc line)
 
-  first-step : (k : at < length packed) → reach fs empty 1 ≡ onward (λ e. reach (front k .others) e (suc (suc line))) (suc line) (checkFrame (h .draft) (frameAt packed at))
-  unfolding reach
-  first-step k = h .same ∙ ap (λ r. reach r (h .draft) (suc line)) (front k .split)
-      ∙ ap (λ f. onward (λ e. reach (front k .others) e (suc (suc line))) (suc line) (checkFrame (h .draft) f)) (sym (head-frame (front k)))
+    first-step : reach fs empty 1 ≡ onwards (checkFrame (h .draft) f)
+    unfolding reach onwards
+    first-step = h .same ∙ ap (λ r. reach r (h .draft) (suc line)) (front .split)
 
-  module _ (k : at < length packed) (shape′ : List ℕ) (ends′ : List ℤ) (r : Step) (t : Stepped (frameAt packed at) s shape ends shape′ ends′ r) where
-    pub walk-stops : (r .fault ≡ 0 → ⊥) → (s′ : State) → WalkedTo (reach fs empty 1) (record { number = r .fault; line = line + 1; state = s′ }) shape′ ends′
-    walk-stops nz s′ =
-        let c : checkFrame (h .draft) (frameAt packed at) ≡ Checked.fault (r .fault) = fault-of (checkFrame (h .draft) (frameAt packed at)) (t .fault (h .draft) (h .held)) nz in
-        let e : reach fs empty 1 ≡ Reached.stopped (r .fault) (suc line) = first-step k ∙ ap (onward (λ e. reach (front k .others) e (suc (suc line))) (suc line)) c in
-        rw e (refl, omega arith, nz)
+    module _ (shape′ : List ℕ) (ends′ : List ℤ) (r : Step) (t : Stepped f s shape ends shape′ ends′ r) where
+      pub walk-stops : (r .fault ≡ 0 → ⊥) → (s′ : Progress) → WalkedTo (reach fs empty 1) (record { number = r .fault; line = line + 1; state = s′ }) shape′ ends′
+      unfolding onwards
+      walk-stops nz s′ =
+          let c : checkFrame (h .draft) f ≡ Checked.fault (r .fault) = fault-of (checkFrame (h .draft) f) (t .fault (h .draft) (h .held)) nz in
+          let e : reach fs empty 1 ≡ Reached.stopped (r .fault) (suc line) = first-step ∙ ap onwards c in
+          rw e (refl, omega arith, nz)
 
-    pub walk-goes : r .fault ≡ 0 → Left packed (r .state) shape′ ends′ (at + 1 + getD packed at 0) (line + 1) fs
-    walk-goes z =
-        let f = frameAt packed at in
-        let (e, c) = next-of (looked (h .draft) f) (sym (t .fault (h .draft) (h .held)) ∙ z) in
-        let n : suc (suc line) ≡ suc (line + 1) = omega arith in
-        record {
-          rest = front k .others;
-          draft = e;
-          bytes = head-next (front k);
-          same = first-step k ∙ ap (onward (λ x. reach (front k .others) x (suc (suc line))) (suc line)) c ∙ ap (reach (front k .others) e) n;
-          held = t .next (h .draft) e (h .held) c;
-        }
+      pub walk-goes : r .fault ≡ 0 → Left packed (r .state) shape′ ends′ (at + 1 + length f) (line + 1) fs
+      unfolding onwards
+      walk-goes z =
+          let (e, c) = next-of (looked (h .draft) f) (sym (t .fault (h .draft) (h .held)) ∙ z) in
+          let n : suc (suc line) ≡ suc (line + 1) = omega arith in
+          record {
+            rest = front .others;
+            draft = e;
+            bytes = front .next;
+            same = first-step ∙ ap onwards c ∙ ap (reach (front .others) e) n;
+            held = t .next (h .draft) e (h .held) c;
+          }
 
   over : length packed ≤ at → h .rest ≡ []
   unfolding pack
@@ -126,37 +110,24 @@ module _ (packed : List ℕ) (s : State) (shape : List ℕ) (ends : List ℤ) (a
       let e : reach fs empty 1 ≡ Reached.came (h .draft) = h .same ∙ ap (λ r. reach r (h .draft) (suc line)) (over k) in
       rw e (refl, h .held)
 
-pub walk-begins : (packed shape : List ℕ) (ends : List ℤ) (s : State) → s ≡ startState → (fs : List (List ℕ)) → packed ≡ pack fs → Held empty startState shape ends
+pub walk-begins : (packed shape : List ℕ) (ends : List ℤ) (s : Progress) → s ≡ startProgress → (fs : List (List ℕ)) → packed ≡ pack fs → DraftIn empty startProgress shape ends
     → Left packed s shape ends 0 0 fs
 walk-begins packed shape ends s e fs p h =
-    record { rest = fs; draft = empty; bytes = p; same = refl; held = subst (λ (x : State). Held empty x shape ends) (sym e) h }
+    record { rest = fs; draft = empty; bytes = p; same = refl; held = subst (λ (x : Progress). DraftIn empty x shape ends) (sym e) h }
 
 -- ---- where frames begin
 
-packed-length : (f : List ℕ) (fs : List (List ℕ)) → length (pack (f ∷ fs)) ≡ suc (length (f ++ pack fs))
-unfolding pack
-packed-length f fs = refl
-
-start-back : (packed : List ℕ) (n at : ℕ) (rest : List (List ℕ)) → drop at packed ≡ pack rest → n ≤ length rest
-    → drop (startFrom packed at n) packed ≡ pack (drop n rest)
+-- behind n of the frames that are left; the bytes may go on behind them
+pub start-back : (bytes tail : List ℕ) (n at : ℕ) (rest : List (List ℕ)) → drop at bytes ≡ pack rest ++ tail → n ≤ length rest
+    → drop (startFrom bytes at n) bytes ≡ pack (drop n rest) ++ tail
 unfolding startFrom
-start-back packed zero at rest e h = e
-start-back packed (suc n) at rest e h =
-    let k : at < length packed = inside rest e h in
-    let f = head-of packed at rest k e in
-    let i : at + getD packed at 0 + 1 ≡ at + 1 + getD packed at 0 = omega arith in
-    let left : n ≤ length (f .others) = omega (arith, h, ap length (f .split)) in
-    ap (λ j. drop (startFrom packed j n) packed) i ∙ start-back packed n (at + 1 + getD packed at 0) (f .others) (head-next f) left
-    ∙ ap (λ r. pack (drop (suc n) r)) (sym (f .split))
-  where
-    inside : (rest : List (List ℕ)) → drop at packed ≡ pack rest → suc n ≤ length rest → at < length packed
-    inside [] e h = absurd (omega arith)
-    inside (f ∷ fs) e h = omega (arith, simp length-drop at (ap length e ∙ packed-length f fs))
-
-pub starts-back : (packed : List ℕ) (tables keys : ℕ) (starts : List ℕ) (fs : List (List ℕ)) → Starts packed tables keys 16 starts → packed ≡ pack fs
-    → (r : ℕ) → r < 16 → frameOf tables keys r ≤ length fs → drop (getD starts r 0) packed ≡ pack (drop (frameOf tables keys r) fs)
-starts-back packed tables keys starts fs s e r l h =
-    ap (λ j. drop j packed) (s .there r l) ∙ start-back packed (frameOf tables keys r) 0 fs e h
+start-back bytes tail zero at rest e h = e
+start-back bytes tail (suc n) at [] e h = absurd (omega arith)
+start-back bytes tail (suc n) at (f ∷ fs) e h =
+    let here : drop at bytes ≡ length f ∷ f ++ (pack fs ++ tail) =
+    e ∙ ap (λ (l : List ℕ). l ++ tail) (pack-cons f fs) ∙ ap (λ (l : List ℕ). length f ∷ l) (append-assoc f (pack fs) tail) in
+    let i : at + getD bytes at 0 + 1 ≡ at + 1 + length f = omega (arith, byte-here bytes at here .0) in
+    ap (λ j. drop (startFrom bytes j n) bytes) i ∙ start-back bytes tail n (at + 1 + length f) fs (frame-here bytes at f (pack fs ++ tail) here .1) (omega arith)
 
 pub starts-none : (packed : List ℕ) (tables keys : ℕ) (starts : List ℕ) → length starts ≡ 16 → Starts packed tables keys 0 starts
 starts-none packed tables keys starts e = record { size = e; there = λ r h. absurd (omega arith) }

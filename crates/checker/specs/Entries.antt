@@ -1,17 +1,18 @@
 -- What a frame without fault adds to the checker's arrays. Assumes nothing: these are definitions.
 use mathlib.Core.Path.{_≡_}
 use mathlib.Core.List.{List, []}
-use Prim.Native.Nat.{ℕ, zero, suc, _+_, _*_, _<_, _≤_}
-use lib.IntN.{ℤ, pos}
+use Prim.Native.Nat.{ℕ, _+_, _*_, _<_, _≤_}
+use lib.IntN.{ℤ}
 use lib.ListN.{length, getD, drop, set}
 use Rattle.value.specs.Integer.{bytesZ}
 use Rattle.value.specs.Value.{Column}
 use Rattle.range.specs.declared.Range.{Range}
-use Rattle.range.specs.Ranges.{constantOf, columnOf, hullOf}
+use Rattle.range.specs.Ranges.{columnOf, hullOf}
 use Rattle.meaning.specs.Syntax.{Table, SetOperation, View}
 use Rattle.language.specs.Reading.{Read}
 use Rattle.meaning.specs.Bounds.{viewSchema}
 use Rattle.catalog.specs.Arrays.{widthAt, rangeAt, putRanges}
+use Rattle.catalog.specs.Frames.{columnsStart}
 use Rattle.language.specs.Draft.{Draft, Item, added, relationCount, schemasOf}
 use Rattle.language.specs.Frames.{tableFrame}
 use Rattle.checker.specs.Catalogued.{Catalogued}
@@ -25,7 +26,7 @@ columnFrom packed at =
 
 -- column c of a table's frame
 unfoldable pub columnIn : List ℕ → ℕ → Range
-columnIn frame c = let x = columnFrom frame (4 * c + 4) in columnOf (x .lo) (x .hi)
+columnIn frame c = let x = columnFrom frame (4 * c + columnsStart) in columnOf (x .lo) (x .hi)
 
 -- the hull of column c of two relations
 unfoldable pub hullAt : List ℕ → List ℤ → ℕ → ℕ → ℕ → Range

@@ -1,9 +1,9 @@
 -- What the checker's numbers and arrays stand for, and what its functions give.
 pub mod Faults
 pub mod Catalogued
-pub mod Layout
+pub mod FixedFaults
 pub mod Entries
-pub mod Packed
+pub mod CandidateCount
 pub mod ViewFaults
 pub mod ViewRules
 pub mod Standing

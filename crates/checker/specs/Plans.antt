@@ -5,29 +5,26 @@ use mathlib.Core.List.{List}
 use Prim.Native.Nat.{ℕ, zero, suc, _+_, _<_}
 use lib.Dec.{ltb}
 use lib.IntN.{ℤ}
-use lib.ListN.{length, getD, take, drop}
+use lib.ListN.{length, getD}
 use Rattle.text.specs.Answers.{pack}
-use Rattle.meaning.specs.Syntax.{File}
-use Rattle.meaning.specs.Bounds.{schema, schemas}
-use Rattle.meaning.specs.Candidates.{candidates}
-use Rattle.catalog.specs.Arrays.{widthAt, boundAt, maskAt}
 use Rattle.language.specs.Draft.{empty}
 use Rattle.language.specs.Check.{Outcome, Reached, reach}
-use Rattle.language.specs.Legal.{tableAt}
-use Rattle.language.specs.Written.{maskOf, fileFrames}
-use Rattle.checker.specs.Standing.{Held, startState}
-use Rattle.checker.specs.declared.plan.Plan.{Plan}
+use Rattle.catalog.specs.FileIn.{PlanOf, SomeRow}
+use Rattle.catalog.specs.declared.outline.Outline.{Outline}
+use Rattle.catalog.specs.declared.plan.Plan.{Plan}
+use Rattle.checker.specs.Standing.{DraftIn, startProgress}
 use Rattle.checker.specs.declared.plan.Walked.{Walked}
+use Rattle.checker.specs.declared.state.Progress.{Progress}
 
 -- ---- frames in turn
 
 -- what the walk over the frames answers: a refusal with its line, or 0 and the counts and arrays of the draft
 abbrev pub WalkedTo : Reached → Walked → List ℕ → List ℤ → Type 0
 WalkedTo (Reached.stopped n line) w shape ends = (w .number ≡ n) × (w .line ≡ line) × (n ≡ 0 → ⊥)
-WalkedTo (Reached.came d) w shape ends = (w .number ≡ 0) × Held d (w .state) shape ends
+WalkedTo (Reached.came d) w shape ends = (w .number ≡ 0) × DraftIn d (w .state) shape ends
 
 pub record Walks (packed shape : List ℕ) (ends : List ℤ) (w : Walked) (shape′ : List ℕ) (ends′ : List ℤ) : Type 0 where
-  pub walked : (fs : List (List ℕ)) → packed ≡ pack fs → Held empty startState shape ends → WalkedTo (reach fs empty 1) w shape′ ends′
+  pub walked : (fs : List (List ℕ)) → packed ≡ pack fs → DraftIn empty startProgress shape ends → WalkedTo (reach fs empty 1) w shape′ ends′
 
 -- ---- where frames begin
 
@@ -46,27 +43,24 @@ pub record Starts (packed : List ℕ) (tables keys n : ℕ) (starts : List ℕ) 
 
 -- ---- the plan
 
-pub record PlanOf (F : File) (p : Plan) : Type 0 where
+-- the counts, the place behind the frames of the tables, and whether some table has a row
+pub record OutlineFrom (bytes shape : List ℕ) (s : Progress) (o : Outline) : Type 0 where
+  pub tables : o .tables ≡ s .tables
+  pub keys : o .keys ≡ s .keys
+  pub relations : o .relations ≡ s .relations
+  pub foreign : o .foreign ≡ startFrom bytes 0 (s .tables)
+  pub filled : SomeRow shape (s .tables) (o .filled)
+
+pub record PlanFrom (bytes : List ℕ) (s : Progress) (shape : List ℕ) (ends : List ℤ) (n : ℕ) (p : Plan) : Type 0 where
   pub number : p .number ≡ 0
   pub line : p .line ≡ 0
-  -- the frames, each behind its length
-  pub room : length (p .bytes) ≡ 5462
-  pub used : p .used ≡ length (pack (fileFrames F))
-  pub packed : take (p .used) (p .bytes) ≡ pack (fileFrames F)
-  pub tables : p .tables ≡ length (F .tables)
-  pub keys : p .keys ≡ length (F .keys)
-  pub relations : p .relations ≡ length (F .tables) + length (F .views)
-  -- the place of each relation's frame
-  pub starts : (r : ℕ) → r < p .relations
-      → drop (getD (p .starts) r 0) (pack (fileFrames F)) ≡ pack (drop (frameOf (p .tables) (p .keys) r) (fileFrames F))
-  -- columns, row bounds and key masks
-  pub shape-size : length (p .shape) ≡ 64
-  pub widths : (i : ℕ) → widthAt (p .shape) i ≡ length (schema (schemas F) i .ranges)
-  pub bounds : (i : ℕ) → boundAt (p .shape) i ≡ schema (schemas F) i .bound
-  pub masks : (i : ℕ) → i < length (F .tables) → maskAt (p .shape) i ≡ maskOf (tableAt (F .tables) i .key)
-  pub goal : p .goal ≡ F .goal .view
-  pub negative : p .negative ≡ F .goal .negative
-  pub candidates-are : p .candidates ≡ candidates F
+  pub bytes-are : p .bytes ≡ bytes
+  pub starts : Starts bytes (s .tables) (s .keys) 16 (p .starts)
+  pub shape-is : p .shape ≡ shape
+  pub ends-are : p .ends ≡ ends
+  pub outline : OutlineFrom bytes shape s (p .outline)
+  pub goal : p .goal ≡ record { view = s .goal; negative = s .negative }
+  pub candidates-are : p .candidates ≡ n
 
 abbrev pub Plans : Outcome → Plan → Type 0
 Plans (Outcome.refused n line) p = (p .number ≡ n) × (p .line ≡ line) × (n ≡ 0 → ⊥)

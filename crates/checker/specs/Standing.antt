@@ -13,28 +13,28 @@ use Rattle.language.specs.Draft.{Draft, Item, added, relationCount, stage, stag
 use Rattle.language.specs.Frames.{frame, wholeFault}
 use Rattle.language.specs.Check.{Checked, checkFrame}
 use Rattle.checker.specs.Catalogued.{Catalogued, checkedFault, bodyFault}
-use Rattle.checker.specs.Layout.{KeysFit}
-use Rattle.checker.specs.declared.state.State.{State}
+use Rattle.checker.specs.FixedFaults.{KeysFit}
+use Rattle.checker.specs.declared.state.Progress.{Progress}
 use Rattle.checker.specs.declared.step.Step.{Step}
 
 -- ---- the counts
 
-pub record Stands (d : Draft) (s : State) : Type 0 where
+pub record Counts (d : Draft) (s : Progress) : Type 0 where
   pub tables : s .tables ≡ length (d .tables)
   pub relations : s .relations ≡ relationCount d
   pub keys : s .keys ≡ length (d .keys)
   pub stage-is : s .stage ≡ stage d
   pub goal : (g : Goal) → d .goal ≡ some g → (s .goal ≡ g .view) × (s .negative ≡ g .negative)
 
-abbrev pub startState : State
-startState = record { tables = 0; relations = 0; keys = 0; stage = 1; goal = 0; negative = false }
+abbrev pub startProgress : Progress
+startProgress = record { tables = 0; relations = 0; keys = 0; stage = 1; goal = 0; negative = false }
 
 -- whether there is room for an item of a stage
-unfoldable pub roomFor : State → ℕ → Bool
+unfoldable pub roomFor : Progress → ℕ → Bool
 roomFor s n = cond (eqb n 2) (ltb (s .keys) 16) (cond (eqb n 4) true (ltb (s .relations) 16))
 
 -- "3, then a 17th relation or key"
-unfoldable pub turnFault : State → ℕ → ℕ
+unfoldable pub turnFault : Progress → ℕ → ℕ
 turnFault s kind = cond (leb (s .stage) (stageOf kind)) (cond (roomFor s (stageOf kind)) 0 5) 3
 
 -- one more of a byte
@@ -42,33 +42,33 @@ abbrev pub more : ℕ → ℕ
 more n = min (n + 1) 255
 
 -- the counts with one more table, foreign key or view, or with the goal
-abbrev pub withTable : State → State
+abbrev pub withTable : Progress → Progress
 withTable s = record { tables = more (s .tables); relations = more (s .relations); keys = s .keys; stage = 1; goal = s .goal; negative = s .negative }
 
-abbrev pub withKey : State → State
+abbrev pub withKey : Progress → Progress
 withKey s = record { tables = s .tables; relations = s .relations; keys = more (s .keys); stage = 2; goal = s .goal; negative = s .negative }
 
-abbrev pub withView : State → State
+abbrev pub withView : Progress → Progress
 withView s = record { tables = s .tables; relations = more (s .relations); keys = s .keys; stage = 3; goal = s .goal; negative = s .negative }
 
-abbrev pub withGoal : State → ℕ → ℕ → State
+abbrev pub withGoal : Progress → ℕ → ℕ → Progress
 withGoal s view sign = record { tables = s .tables; relations = s .relations; keys = s .keys; stage = 5; goal = view; negative = eqb sign 1 }
 
 -- ---- a frame
 
 -- the counts and arrays stand for a draft that frames make
-pub record Held (d : Draft) (s : State) (shape : List ℕ) (ends : List ℤ) : Type 0 where
-  pub stands : Stands d s
+pub record DraftIn (d : Draft) (s : Progress) (shape : List ℕ) (ends : List ℤ) : Type 0 where
+  pub counts : Counts d s
   pub catalogued : Catalogued d shape ends
   pub fits : KeysFit d
 
 -- what the frame f of kind k does when its turn has come
-pub record Turned (k : ℕ) (f : List ℕ) (s : State) (shape : List ℕ) (ends : List ℤ) (shape′ : List ℕ) (ends′ : List ℤ) (r : Step) : Type 0 where
-  pub fault : (d : Draft) → Held d s shape ends → inOrder d k ≡ true → hasRoom d k ≡ true → r .fault ≡ bodyFault d (frame d k) f
-  pub next : (d : Draft) (i : Item) → Held d s shape ends → inOrder d k ≡ true → hasRoom d k ≡ true → frame d k (drop 1 f) ≡ Read.ok i []
-      → wholeFault d i ≡ 0 → Stands (added d i) (r .state) × Catalogued (added d i) shape′ ends′
+pub record Turned (k : ℕ) (f : List ℕ) (s : Progress) (shape : List ℕ) (ends : List ℤ) (shape′ : List ℕ) (ends′ : List ℤ) (r : Step) : Type 0 where
+  pub fault : (d : Draft) → DraftIn d s shape ends → inOrder d k ≡ true → hasRoom d k ≡ true → r .fault ≡ bodyFault d (frame d k) f
+  pub next : (d : Draft) (i : Item) → DraftIn d s shape ends → inOrder d k ≡ true → hasRoom d k ≡ true → frame d k (drop 1 f) ≡ Read.ok i []
+      → wholeFault d i ≡ 0 → Counts (added d i) (r .state) × Catalogued (added d i) shape′ ends′
 
 -- what any frame does
-pub record Stepped (f : List ℕ) (s : State) (shape : List ℕ) (ends : List ℤ) (shape′ : List ℕ) (ends′ : List ℤ) (r : Step) : Type 0 where
-  pub fault : (d : Draft) → Held d s shape ends → r .fault ≡ checkedFault (checkFrame d f)
-  pub next : (d e : Draft) → Held d s shape ends → checkFrame d f ≡ Checked.next e → Held e (r .state) shape′ ends′
+pub record Stepped (f : List ℕ) (s : Progress) (shape : List ℕ) (ends : List ℤ) (shape′ : List ℕ) (ends′ : List ℤ) (r : Step) : Type 0 where
+  pub fault : (d : Draft) → DraftIn d s shape ends → r .fault ≡ checkedFault (checkFrame d f)
+  pub next : (d e : Draft) → DraftIn d s shape ends → checkFrame d f ≡ Checked.next e → DraftIn e (r .state) shape′ ends′

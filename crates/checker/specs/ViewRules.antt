@@ -47,7 +47,7 @@ unfoldable pub viewFault : Bool → ℕ → Bool → ℕ
 viewFault allowed bound within = cond allowed (cond (leb bound 64) (cond within 0 9) 8) 7
 
 -- what the arrays need so that relation r can be stored while those of the from list are read
-pub record Room (shape : List ℕ) (ends : List ℤ) (items : List ℕ) (r : ℕ) : Type 0 where
+pub record EntryRoom (shape : List ℕ) (ends : List ℤ) (items : List ℕ) (r : ℕ) : Type 0 where
   pub place : r < 16
   pub size : length ends ≡ 256
   pub widths : (i : ℕ) → widthAt shape i ≤ 8
@@ -57,14 +57,14 @@ pub record Room (shape : List ℕ) (ends : List ℤ) (items : List ℕ) (r : ℕ
 
 pub record Selects (frame : List ℕ) (start c : ℕ) (items shape : List ℕ) (ends : List ℤ) (r : ℕ) (rule : Rule) (ends′ : List ℤ) (allowed within : Bool) : Type 0 where
   pub outside : c ≤ 8 → Outside r ends ends′
-  pub selects : Room shape ends items r → c ≤ 8 → (es : List Expr) (rest : List ℕ)
+  pub selects : EntryRoom shape ends items r → c ≤ 8 → (es : List Expr) (rest : List ℕ)
       → times c (readE (widthsIn shape items)) (drop start frame) ≡ Read.ok es rest
       → (allowed ≡ all (allowedE (columnsOf frame rule) (rule .grouped)) es)
       × (within ≡ all (withinE (itemsIn shape ends items) (rule .bound)) es)
       × (within ≡ true → rangesFrom ends′ (16 * r) c ≡ map (range (itemsIn shape ends items) (rule .bound)) es)
 
 -- what is answered for a view with the select expressions es: `allowed` is the rule on 07, `within` that on ranges, R the row bound
-pub record Answer (allowed within : Bool) (es : List Expr) (I : List (List Range)) (R r : ℕ) (ends ends′ : List ℤ) (a : Ruled) : Type 0 where
+pub record RuledAs (allowed within : Bool) (es : List Expr) (I : List (List Range)) (R r : ℕ) (ends ends′ : List ℤ) (a : Ruled) : Type 0 where
   pub fault : a .fault ≡ viewFault allowed R within
   pub bound : a .bound ≡ R % 256
   pub narrow : a .width ≤ 8
@@ -72,9 +72,9 @@ pub record Answer (allowed within : Bool) (es : List Expr) (I : List (List Range
   pub ranges : within ≡ true → rangesFrom ends′ (16 * r) (a .width) ≡ map (range I R) es
 
 pub record Tail (frame : List ℕ) (head : Tested) (count : ℕ) (items shape : List ℕ) (ends : List ℤ) (r : ℕ) (rule : Rule) (ends′ : List ℤ) (a : Ruled) : Type 0 where
-  pub ruled : Room shape ends items r → count ≤ 8 → (es : List Expr) (rest : List ℕ)
+  pub ruled : EntryRoom shape ends items r → count ≤ 8 → (es : List Expr) (rest : List ℕ)
       → times count (readE (widthsIn shape items)) (drop (head .next) frame) ≡ Read.ok es rest
-      → Answer (head .allowed && all (allowedE (columnsOf frame rule) (rule .grouped)) es)
+      → RuledAs (head .allowed && all (allowedE (columnsOf frame rule) (rule .grouped)) es)
       (head .within && all (withinE (itemsIn shape ends items) (rule .bound)) es)
       es (itemsIn shape ends items) (rule .bound) r ends ends′ a
 

@@ -1,5 +1,6 @@
 // What a frame without fault adds to the arrays, and the number of candidates.
 use catalog::arrays;
+use catalog::frames::COLUMNS;
 use range::Range;
 use slice::byte_at;
 use value::domain::Domain;
@@ -9,10 +10,10 @@ ghost use mathlib.Core.Bool.{cond};
 ghost use Prim.Native.Nat.{_+_, _*_, _≤_, min};
 ghost use Rattle.value.specs.Machine.{columnOf};
 ghost use Rattle.meaning.specs.Bounds.{setBound};
-ghost use Rattle.catalog.specs.Arrays.{putShape, putRanges};
+ghost use Rattle.catalog.specs.Arrays.{widthAt, putShape, putRanges};
 ghost use Rattle.checker.specs.Entries.{columnFrom, columnIn, HullsPut, TableEntered, SetEntered};
-ghost use Rattle.checker.specs.Layout.{setOperation};
-ghost use Rattle.checker.specs.Packed.{tooMany, cappedProduct, columnsFrom, tableCells, cellsFrom, Counted};
+ghost use Rattle.checker.specs.FixedFaults.{setOperation};
+ghost use Rattle.checker.specs.CandidateCount.{tooMany, cappedProduct, columnsFrom, tableCells, Counted};
 
 const TABLE: u8 = 1;
 
@@ -22,8 +23,7 @@ const VIEW: u8 = 2;
 pub const TOO_MANY: u64 = 16777217;
 
 // The column whose four bytes stand at a place.
-// Refused: lo twice; the high byte of lo twice.
-pub fn domain_at(bytes: &[u8], at: usize) -> Domain
+fn domain_at(bytes: &[u8], at: usize) -> Domain
     requires { ⌜ at ≤ 4294970000 ⌝ }
     ensures { λ d. ⌜ columnOf d ≡ columnFrom (now (bytes .entry)) at ⌝ }
 {
@@ -36,7 +36,7 @@ pub fn domain_at(bytes: &[u8], at: usize) -> Domain
 fn column_in(frame: &[u8], c: u8) -> Range
     ensures { λ x. ⌜ x ≡ columnIn (now (frame .entry)) c ⌝ }
 {
-    let column = domain_at(frame, 4 * (c as usize) + 4);
+    let column = domain_at(frame, 4 * (c as usize) + COLUMNS);
     Range::column(column.lo, column.hi)
 }
 
@@ -139,49 +139,45 @@ fn capped(n: u64, m: u32) -> u64
     if p <= TOO_MANY { p } else { TOO_MANY }
 }
 
-// n times the sizes of some columns.
-fn times_row(packed: &[u8], start: usize, columns: u8, n: u64) -> u64
-    requires { ⌜ (start ≤ 66000) × (n ≤ tooMany) ⌝ }
-    ensures { λ p. ⌜ (p ≡ cappedProduct n (columnsFrom (now (packed .entry)) start columns)) × (p ≤ tooMany) ⌝ }
+// n times the sizes of the columns of a table.
+fn times_row(shape: &[u8], ends: &[i32], t: u8, n: u64) -> u64
+    requires { ⌜ n ≤ tooMany ⌝ }
+    ensures { λ p. ⌜ (p ≡ cappedProduct n (columnsFrom (now (shape .entry)) (now (ends .entry)) t 0 (widthAt (now (shape .entry)) t))) × (p ≤ tooMany) ⌝ }
 {
+    let width = arrays::width_of(shape, t);
     let mut p = n;
-    let mut at = start;
-    let mut left = columns;
-    while 0 < left {
-        p = capped(p, domain_at(packed, at).size());
-        at += 4;
-        left -= 1;
+    let mut c: u8 = 0;
+    while c < width {
+        p = capped(p, arrays::domain_of(shape, ends, t, c).size());
+        c += 1;
     }
     p
 }
 
 // n times the sizes of a table's cells.
-fn times_table(packed: &[u8], at: usize, n: u64) -> u64
-    requires { ⌜ (at ≤ 65280) × (n ≤ tooMany) ⌝ }
-    ensures { λ p. ⌜ (p ≡ cappedProduct n (tableCells (now (packed .entry)) at)) × (p ≤ tooMany) ⌝ }
+fn times_table(shape: &[u8], ends: &[i32], t: u8, n: u64) -> u64
+    requires { ⌜ n ≤ tooMany ⌝ }
+    ensures { λ p. ⌜ (p ≡ cappedProduct n (tableCells (now (shape .entry)) (now (ends .entry)) t)) × (p ≤ tooMany) ⌝ }
 {
-    let columns = byte_at(packed, at + 3);
-    let mut left = byte_at(packed, at + 2);
+    let mut left = arrays::bound_of(shape, t);
     let mut p = n;
     while 0 < left {
-        p = times_row(packed, at + 5, columns, p);
+        p = times_row(shape, ends, t, p);
         left -= 1;
     }
     p
 }
 
-// The number of candidates of a file's tables, whose frames come first, each behind its length; 2^24 + 1 stands for any larger number.
-// Refused: 0 with no cells; a frame's length taken one too small.
-pub fn candidates_of(packed: &[u8], tables: u8) -> u64
-    ensures { λ n. ⌜ Counted (now (packed .entry)) tables n ⌝ }
+// The number of candidates of a file's tables, the first relations; 2^24 + 1 stands for any larger number.
+// Refused: 0 with no cells; the first table counted for each.
+pub fn candidates_of(shape: &[u8], ends: &[i32], tables: u8) -> u64
+    ensures { λ n. ⌜ Counted (now (shape .entry)) (now (ends .entry)) tables n ⌝ }
 {
     let mut p: u64 = 1;
-    let mut at: usize = 0;
-    let mut left = tables;
-    while 0 < left {
-        p = times_table(packed, at, p);
-        at += (byte_at(packed, at) as usize) + 1;
-        left -= 1;
+    let mut t: u8 = 0;
+    while t < tables {
+        p = times_table(shape, ends, t, p);
+        t += 1;
     }
     p
 }

@@ -1,6 +1,5 @@
 // The fields of a frame: the fault of each, or 0.
 ghost use mathlib.Core.Path.{_≡_};
-ghost use lib.ListN.{getD};
 ghost use Rattle.language.specs.Reading.{byteIf};
 ghost use Rattle.language.specs.Frames.{ending};
 ghost use Rattle.checker.specs.Faults.{first, faultAt, under, within, fromUnder};

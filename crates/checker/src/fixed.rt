@@ -1,32 +1,18 @@
 // The faults of the frames of fixed layout: tables, foreign keys, set views and the goal.
 ghost use mathlib.Core.Path.{_≡_};
-ghost use Prim.Native.Nat.{_*_, _+_, _^_, _<_, min};
+ghost use Prim.Native.Nat.{_+_, _^_, _<_, min};
 ghost use lib.ListN.{getD};
 ghost use Rattle.value.specs.Integer.{bytesZ};
 ghost use Rattle.language.specs.Frames.{columnField, pairField};
+ghost use Rattle.catalog.specs.Frames.{columnsStart};
 ghost use Rattle.checker.specs.Faults.{faultAt};
-ghost use Rattle.checker.specs.Layout.{columnsFault, pairsFault, parentCount, columnPairing, pairing, setOperation, setRules, TableFault, KeyFault, SetFault, GoalFault};
+ghost use Rattle.checker.specs.FixedFaults.{columnsFault, pairsFault, parentCount, columnPairing, pairing, setOperation, setRules, TableFault, KeyFault, SetFault, GoalFault};
 use super::entries;
 use super::fields;
+use catalog::arrays;
+use catalog::frames::COLUMNS;
 use value::boolean;
 use value::integer;
-
-// ---- what is known of a relation
-
-// The parts of a relation's shape.
-const WIDTH: usize = 1;
-
-const BOUND: usize = 2;
-
-const MASK: usize = 3;
-
-// A part of the shape of the relation that a byte numbers.
-fn known(shape: &[u8], frame: &[u8], at: usize, part: usize) -> u8
-    requires { ⌜ part < 4 ⌝ }
-    ensures { λ r. ⌜ r ≡ getD (now (shape .entry)) (4 * getD (now (frame .entry)) at 0 + part) 0 ⌝ }
-{
-    slice::byte_at(shape, 4 * (slice::byte_at(frame, at) as usize) + part)
-}
 
 // ---- 01 table
 
@@ -66,9 +52,9 @@ fn column_fault(frame: &[u8], at: usize) -> u8
 
 // The lo and hi of each column.
 fn columns_fault(frame: &[u8], n: u8) -> u8
-    ensures { λ r. ⌜ r ≡ columnsFault (now (frame .entry)) 4 n ⌝ }
+    ensures { λ r. ⌜ r ≡ columnsFault (now (frame .entry)) columnsStart n ⌝ }
 {
-    let mut at = 4;
+    let mut at = COLUMNS;
     let mut left = n;
     while 0 < left {
         let found = column_fault(frame, at);
@@ -91,7 +77,7 @@ pub fn table_fault(frame: &[u8]) -> u8
     let columns = fields::between(frame, 2, 5, 1, 4);
     let mask = fields::below(frame, 3, 5, masks_of(n));
     let ranges = columns_fault(frame, n);
-    let end = fields::ends_at(frame, 4 + (n as usize) * 4);
+    let end = fields::ends_at(frame, COLUMNS + (n as usize) * 4);
     fields::first_of(
         rows,
         fields::first_of(
@@ -180,10 +166,12 @@ fn pairing_fault(frame: &[u8], n: u8, width: u8, mask: u8) -> u8
 pub fn key_fault(frame: &[u8], shape: &[u8], tables: u8) -> u8
     ensures { λ r. ⌜ KeyFault (now (frame .entry)) (now (shape .entry)) tables r ⌝ }
 {
+    let child = slice::byte_at(frame, 1);
+    let parent = slice::byte_at(frame, 2);
     let n = slice::byte_at(frame, 3);
-    let c = known(shape, frame, 1, WIDTH);
-    let p = known(shape, frame, 2, WIDTH);
-    let mask = known(shape, frame, 2, MASK);
+    let c = arrays::width_of(shape, child);
+    let p = arrays::width_of(shape, parent);
+    let mask = arrays::mask_of(shape, parent);
     let from = fields::below(frame, 1, 6, tables);
     let to = fields::below(frame, 2, 6, tables);
     let count = fields::between(frame, 3, 5, 1, 4);
@@ -220,10 +208,12 @@ fn set_rules(union: bool, v: u8, w: u8, a: u8, b: u8) -> u8
 pub fn set_fault(frame: &[u8], shape: &[u8], tables: u8, count: u8, union: bool) -> u8
     ensures { λ r. ⌜ SetFault (now (frame .entry)) (now (shape .entry)) tables count (setOperation union) r ⌝ }
 {
-    let v = known(shape, frame, 1, WIDTH);
-    let w = known(shape, frame, 2, WIDTH);
-    let a = known(shape, frame, 1, BOUND);
-    let b = known(shape, frame, 2, BOUND);
+    let i = slice::byte_at(frame, 1);
+    let j = slice::byte_at(frame, 2);
+    let v = arrays::width_of(shape, i);
+    let w = arrays::width_of(shape, j);
+    let a = arrays::bound_of(shape, i);
+    let b = arrays::bound_of(shape, j);
     let left = fields::from_below(frame, 1, 6, tables, count);
     let right = fields::from_below(frame, 2, 6, tables, count);
     let end = fields::ends_at(frame, 3);

@@ -1,37 +1,25 @@
 // A text to the plan of its file, or to its refusal.
 use super::entries;
-use super::fields;
 use super::state;
-use super::state::State;
+use super::state::Progress;
 use super::step;
+use catalog::frames;
+use catalog::outline;
+use catalog::outline::Outline;
+use catalog::plan::Goal;
+use catalog::plan::Plan;
 use text;
 ghost use mathlib.Core.Path.{_≡_};
 ghost use Prim.Native.Nat.{_≤_};
 ghost use lib.ListN.{length};
 ghost use Rattle.language.specs.FileOf.{fileOf};
-ghost use Rattle.checker.specs.Plans.{Walks, startFrom, frameOf, Starts, Plans};
-
-// Number 0: the plan of a file. Any other: a refusal with its line.
-pub struct Plan {
-    pub number: u8,
-    pub line: u16,
-    pub bytes: [u8; text::ROOM],
-    pub used: usize,
-    pub starts: [u32; 16],
-    pub shape: [u8; 64],
-    pub tables: u8,
-    pub keys: u8,
-    pub relations: u8,
-    pub goal: u8,
-    pub negative: bool,
-    pub candidates: u64,
-}
+ghost use Rattle.checker.specs.Plans.{Walks, startFrom, frameOf, Starts, OutlineFrom, PlanFrom, Plans};
 
 // How far the frames are taken.
 struct Walked {
     number: u8,
     line: u16,
-    state: State,
+    state: Progress,
 }
 
 // The frames of packed bytes, in turn.
@@ -43,19 +31,8 @@ fn walk(packed: &[u8], shape: &mut [u8], ends: &mut [i32]) -> Walked
     let mut at = 0;
     let mut line: u16 = 0;
     while at < packed.len() {
-        let size = packed[at] as usize;
-        let from = at + 1;
         line = line + 1;
-        // never met: decoded frames are whole
-        if packed.len() - from < size {
-            return Walked {
-                number: 2,
-                line: line,
-                state: s,
-            };
-        }
-        let to = from + size;
-        let frame = &packed[from..to];
+        let frame = frames::frame_at(packed, at);
         let next = step::frame_step(frame, shape, ends, s);
         if next.fault != 0 {
             return Walked {
@@ -65,7 +42,7 @@ fn walk(packed: &[u8], shape: &mut [u8], ends: &mut [i32]) -> Walked
             };
         }
         s = next.state;
-        at = to;
+        at = at + 1 + frame.len();
     }
     Walked {
         number: 0,
@@ -75,14 +52,14 @@ fn walk(packed: &[u8], shape: &mut [u8], ends: &mut [i32]) -> Walked
 }
 
 // Where the frame behind n frames begins, its length byte first.
-fn start_of(packed: &[u8], n: u16) -> u32
+fn start_of(bytes: &[u8], n: u16) -> u32
     requires { ⌜ n ≤ 300 ⌝ }
-    ensures { λ r. ⌜ r ≡ startFrom (now (packed .entry)) 0 n ⌝ }
+    ensures { λ r. ⌜ r ≡ startFrom (now (bytes .entry)) 0 n ⌝ }
 {
     let mut at: u32 = 0;
     let mut left = n;
     while 0 < left {
-        at = at + (slice::byte_at(packed, at as usize) as u32) + 1;
+        at = at + (slice::byte_at(bytes, at as usize) as u32) + 1;
         left = left - 1;
     }
     at
@@ -100,34 +77,86 @@ fn frame_of(tables: u8, keys: u8, r: u8) -> u16
 }
 
 // Where each relation's frame begins.
-fn starts_of(packed: &[u8], tables: u8, keys: u8) -> [u32; 16]
-    ensures { λ s. ⌜ Starts (now (packed .entry)) tables keys 16 s ⌝ }
+fn starts_of(bytes: &[u8], tables: u8, keys: u8) -> [u32; 16]
+    ensures { λ s. ⌜ Starts (now (bytes .entry)) tables keys 16 s ⌝ }
 {
     let mut starts = [0u32; 16];
     let mut r: u8 = 0;
     while r < 16 {
         let i = r as usize;
-        starts[i] = start_of(packed, frame_of(tables, keys, r));
+        starts[i] = start_of(bytes, frame_of(tables, keys, r));
         r = r + 1;
     }
     starts
 }
 
+// What the evaluation needs beside the arrays, from what was counted.
+fn outline_from(bytes: &[u8], shape: &[u8], s: Progress) -> Outline
+    ensures { λ o. ⌜ OutlineFrom (now (bytes .entry)) (now (shape .entry)) s o ⌝ }
+{
+    let foreign = start_of(bytes, s.tables as u16);
+    let filled = outline::some_row(shape, s.tables);
+    Outline {
+        tables: s.tables,
+        keys: s.keys,
+        relations: s.relations,
+        foreign: foreign as usize,
+        filled: filled,
+    }
+}
+
+// The plan of a file whose frames were walked without fault.
+fn plan_from(
+    bytes: [u8; text::ROOM],
+    s: Progress,
+    shape: [u8; 64],
+    ends: [i32; 256],
+    candidates: u64,
+) -> Plan
+    ensures { λ p. ⌜ PlanFrom bytes s shape ends candidates p ⌝ }
+{
+    let starts = starts_of(&bytes, s.tables, s.keys);
+    let outline = outline_from(&bytes, &shape, s);
+    let goal = Goal {
+        view: s.goal,
+        negative: s.negative,
+    };
+    Plan {
+        number: 0,
+        line: 0,
+        bytes: bytes,
+        starts: starts,
+        shape: shape,
+        ends: ends,
+        outline: outline,
+        goal: goal,
+        candidates: candidates,
+    }
+}
+
 fn refusal(number: u8, line: u16) -> Plan
     ensures { λ r. ⌜ (r .number ≡ number) × (r .line ≡ line) ⌝ }
 {
+    let outline = Outline {
+        tables: 0,
+        keys: 0,
+        relations: 0,
+        foreign: 0,
+        filled: false,
+    };
+    let goal = Goal {
+        view: 0,
+        negative: false,
+    };
     Plan {
         number: number,
         line: line,
         bytes: [0u8; text::ROOM],
-        used: 0,
         starts: [0u32; 16],
         shape: [0u8; 64],
-        tables: 0,
-        keys: 0,
-        relations: 0,
-        goal: 0,
-        negative: false,
+        ends: [0i32; 256],
+        outline: outline,
+        goal: goal,
         candidates: 0,
     }
 }
@@ -153,23 +182,9 @@ pub fn check(text: &[u8]) -> Plan
     if s.stage != 5 {
         return refusal(3, 0);
     }
-    let n = entries::candidates_of(&bytes[..used], s.tables);
+    let n = entries::candidates_of(&shape, &ends, s.tables);
     if n == entries::TOO_MANY {
         return refusal(10, 0);
     }
-    let starts = starts_of(&bytes[..used], s.tables, s.keys);
-    Plan {
-        number: 0,
-        line: 0,
-        bytes: bytes,
-        used: used,
-        starts: starts,
-        shape: shape,
-        tables: s.tables,
-        keys: s.keys,
-        relations: s.relations,
-        goal: s.goal,
-        negative: s.negative,
-        candidates: n,
-    }
+    plan_from(bytes, s, shape, ends, n)
 }

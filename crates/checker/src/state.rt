@@ -1,7 +1,7 @@
 // What the checker has counted so far, the stage of the order, and the goal.
 ghost use mathlib.Core.Path.{_≡_};
 ghost use Rattle.language.specs.Draft.{stageOf};
-ghost use Rattle.checker.specs.Standing.{startState, roomFor, turnFault, more, withTable, withKey, withView, withGoal};
+ghost use Rattle.checker.specs.Standing.{startProgress, roomFor, turnFault, more, withTable, withKey, withView, withGoal};
 
 // The stages of the order; behind the goal no frame has one.
 const TABLES: u8 = 1;
@@ -12,7 +12,7 @@ const VIEWS: u8 = 3;
 
 const ENDED: u8 = 5;
 
-pub struct State {
+pub struct Progress {
     pub tables: u8,
     pub relations: u8,
     pub keys: u8,
@@ -23,10 +23,10 @@ pub struct State {
 
 // Before the first frame.
 // Refused: goal 1; the stage of foreign keys.
-pub fn start() -> State
-    ensures { λ r. ⌜ r ≡ startState ⌝ }
+pub fn start() -> Progress
+    ensures { λ r. ⌜ r ≡ startProgress ⌝ }
 {
-    State {
+    Progress {
         tables: 0,
         relations: 0,
         keys: 0,
@@ -52,7 +52,7 @@ fn stage_of(kind: u8) -> u8
     }
 }
 
-fn room_for(s: State, stage: u8) -> bool
+fn room_for(s: Progress, stage: u8) -> bool
     ensures { λ r. ⌜ r ≡ roomFor s stage ⌝ }
 {
     if stage == 2 {
@@ -66,7 +66,7 @@ fn room_for(s: State, stage: u8) -> bool
 
 // 3 for a kind unknown or out of order, 5 for a 17th relation or foreign key.
 // Refused: 5 for 3; a 17th relation kept.
-pub fn turn_fault(s: State, kind: u8) -> u8
+pub fn turn_fault(s: Progress, kind: u8) -> u8
     ensures { λ r. ⌜ r ≡ turnFault s kind ⌝ }
 {
     let stage = stage_of(kind);
@@ -84,10 +84,10 @@ fn one_more(n: u8) -> u8
 
 // One more table.
 // Refused: the keys counted as tables; the stage of foreign keys.
-pub fn with_table(s: State) -> State
+pub fn with_table(s: Progress) -> Progress
     ensures { λ r. ⌜ r ≡ withTable s ⌝ }
 {
-    State {
+    Progress {
         tables: one_more(s.tables),
         relations: one_more(s.relations),
         keys: s.keys,
@@ -99,10 +99,10 @@ pub fn with_table(s: State) -> State
 
 // One more foreign key.
 // Refused: the tables counted as keys; the stage of tables.
-pub fn with_key(s: State) -> State
+pub fn with_key(s: Progress) -> Progress
     ensures { λ r. ⌜ r ≡ withKey s ⌝ }
 {
-    State {
+    Progress {
         tables: s.tables,
         relations: s.relations,
         keys: one_more(s.keys),
@@ -114,11 +114,11 @@ pub fn with_key(s: State) -> State
 
 // One more view.
 // Refused: the tables counted as relations; the stage of the goal.
-pub fn with_view(s: State) -> State
+pub fn with_view(s: Progress) -> Progress
     ensures { λ r. ⌜ r ≡ withView s ⌝ }
 {
     let relations = one_more(s.relations);
-    State {
+    Progress {
         tables: s.tables,
         relations: relations,
         keys: s.keys,
@@ -130,10 +130,10 @@ pub fn with_view(s: State) -> State
 
 // The goal.
 // Refused: the signs swapped; a frame may follow.
-pub fn with_goal(s: State, view: u8, sign: u8) -> State
+pub fn with_goal(s: Progress, view: u8, sign: u8) -> Progress
     ensures { λ r. ⌜ r ≡ withGoal s view sign ⌝ }
 {
-    State {
+    Progress {
         tables: s.tables,
         relations: s.relations,
         keys: s.keys,

@@ -1,22 +1,20 @@
 // One frame: its fault, or what the counts and the arrays are with it.
 use super::entries;
-use super::fields;
 use super::fixed;
 use super::state;
-use super::state::State;
+use super::state::Progress;
 use super::view_bytes;
 use super::view_rules;
-ghost use mathlib.Core.Path.{_≡_};
 ghost use Rattle.language.specs.Written.{setKind};
-ghost use Rattle.checker.specs.Layout.{setOperation};
+ghost use Rattle.checker.specs.FixedFaults.{setOperation};
 ghost use Rattle.checker.specs.Standing.{Turned, Stepped};
 
 pub struct Step {
     pub fault: u8,
-    pub state: State,
+    pub state: Progress,
 }
 
-fn table_step(frame: &[u8], shape: &mut [u8], ends: &mut [i32], s: State) -> Step
+fn table_step(frame: &[u8], shape: &mut [u8], ends: &mut [i32], s: Progress) -> Step
     ensures { λ r. ⌜ Turned 1 (now (frame .entry)) s (now (shape .entry)) (now (ends .entry)) (now (shape .exit)) (now (ends .exit)) r ⌝ }
 {
     let fault = fixed::table_fault(frame);
@@ -33,7 +31,7 @@ fn table_step(frame: &[u8], shape: &mut [u8], ends: &mut [i32], s: State) -> Ste
     }
 }
 
-fn key_step(frame: &[u8], shape: &[u8], ends: &[i32], s: State) -> Step
+fn key_step(frame: &[u8], shape: &[u8], ends: &[i32], s: Progress) -> Step
     ensures { λ r. ⌜ Turned 2 (now (frame .entry)) s (now (shape .entry)) (now (ends .entry)) (now (shape .entry)) (now (ends .entry)) r ⌝ }
 {
     let fault = fixed::key_fault(frame, shape, s.tables);
@@ -49,7 +47,7 @@ fn key_step(frame: &[u8], shape: &[u8], ends: &[i32], s: State) -> Step
     }
 }
 
-fn basic_step(frame: &[u8], shape: &mut [u8], ends: &mut [i32], s: State) -> Step
+fn basic_step(frame: &[u8], shape: &mut [u8], ends: &mut [i32], s: Progress) -> Step
     ensures { λ r. ⌜ Turned 3 (now (frame .entry)) s (now (shape .entry)) (now (ends .entry)) (now (shape .exit)) (now (ends .exit)) r ⌝ }
 {
     let fault = view_bytes::basic_bytes(frame, shape, s.relations);
@@ -67,7 +65,7 @@ fn basic_step(frame: &[u8], shape: &mut [u8], ends: &mut [i32], s: State) -> Ste
     }
 }
 
-fn grouped_step(frame: &[u8], shape: &mut [u8], ends: &mut [i32], s: State) -> Step
+fn grouped_step(frame: &[u8], shape: &mut [u8], ends: &mut [i32], s: Progress) -> Step
     ensures { λ r. ⌜ Turned 4 (now (frame .entry)) s (now (shape .entry)) (now (ends .entry)) (now (shape .exit)) (now (ends .exit)) r ⌝ }
 {
     let fault = view_bytes::grouped_bytes(frame, shape, s.relations);
@@ -85,7 +83,7 @@ fn grouped_step(frame: &[u8], shape: &mut [u8], ends: &mut [i32], s: State) -> S
     }
 }
 
-fn set_step(union: bool, frame: &[u8], shape: &mut [u8], ends: &mut [i32], s: State) -> Step
+fn set_step(union: bool, frame: &[u8], shape: &mut [u8], ends: &mut [i32], s: Progress) -> Step
     ensures { λ r. ⌜ Turned (setKind (setOperation union)) (now (frame .entry)) s (now (shape .entry)) (now (ends .entry)) (now (shape .exit)) (now (ends .exit)) r ⌝ }
 {
     let fault = fixed::set_fault(frame, shape, s.tables, s.relations, union);
@@ -104,7 +102,7 @@ fn set_step(union: bool, frame: &[u8], shape: &mut [u8], ends: &mut [i32], s: St
     }
 }
 
-fn goal_step(frame: &[u8], shape: &[u8], ends: &[i32], s: State) -> Step
+fn goal_step(frame: &[u8], shape: &[u8], ends: &[i32], s: Progress) -> Step
     ensures { λ r. ⌜ Turned 7 (now (frame .entry)) s (now (shape .entry)) (now (ends .entry)) (now (shape .entry)) (now (ends .entry)) r ⌝ }
 {
     let fault = fixed::goal_fault(frame, s.tables, s.relations);
@@ -117,7 +115,7 @@ fn goal_step(frame: &[u8], shape: &[u8], ends: &[i32], s: State) -> Step
 }
 
 // The frame of a kind whose turn has come.
-fn body_step(kind: u8, frame: &[u8], shape: &mut [u8], ends: &mut [i32], s: State) -> Step
+fn body_step(kind: u8, frame: &[u8], shape: &mut [u8], ends: &mut [i32], s: Progress) -> Step
     ensures { λ r. ⌜ Turned kind (now (frame .entry)) s (now (shape .entry)) (now (ends .entry)) (now (shape .exit)) (now (ends .exit)) r ⌝ }
 {
     match kind {
@@ -133,7 +131,7 @@ fn body_step(kind: u8, frame: &[u8], shape: &mut [u8], ends: &mut [i32], s: Stat
 
 // One frame: its fault, or the state and the arrays with what it adds.
 // Refused: 3 for a frame without bytes; every frame as a table's.
-pub fn frame_step(frame: &[u8], shape: &mut [u8], ends: &mut [i32], s: State) -> Step
+pub fn frame_step(frame: &[u8], shape: &mut [u8], ends: &mut [i32], s: Progress) -> Step
     ensures { λ r. ⌜ Stepped (now (frame .entry)) s (now (shape .entry)) (now (ends .entry)) (now (shape .exit)) (now (ends .exit)) r ⌝ }
 {
     if frame.len() == 0 {

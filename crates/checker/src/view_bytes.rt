@@ -1,5 +1,6 @@
 // The pass over the bytes of a basic or an aggregate view: the first fault of its parts in their order, 0 for none.
 use crate::fields;
+use catalog::arrays;
 use prefix::Skip;
 ghost use mathlib.Core.Path.{_≡_};
 ghost use Prim.Native.Nat.{_≤_};
@@ -52,7 +53,7 @@ fn from_list(frame: &[u8], count: u8) -> u8
 fn width(frame: &[u8], shape: &[u8], at: usize) -> u8
     ensures { λ r. ⌜ r ≡ widthAt (now (shape .entry)) (getD (now (frame .entry)) at 0) ⌝ }
 {
-    slice::byte_at(shape, 4 * wide(slice::byte_at(frame, at)) + 1)
+    arrays::width_of(shape, slice::byte_at(frame, at))
 }
 
 // The number of columns of each from item; what stands behind the last from item does not count.

@@ -1,9 +1,9 @@
 // The rules on the whole frame of a basic or an aggregate view, 7, 8 and 9, and the ranges of its columns.
-use super::fields;
 use bounds;
 use bounds::Rule;
 use bounds::Tested;
 use catalog::arrays;
+use catalog::frames;
 use range::Ranged;
 ghost use mathlib.Core.Path.{_≡_};
 ghost use mathlib.Core.Bool.{false, _&&_};
@@ -160,52 +160,35 @@ fn both(w: Tested, h: Tested) -> Tested
     }
 }
 
-// The answer for a frame that ends in its from list: its bytes are refused, and any will do.
-fn none() -> Ruled {
-    Ruled {
-        fault: 0,
-        bound: 0,
-        width: 0,
-    }
-}
-
 // The rules on the whole frame of a basic view, 7, 8 and 9, and the ranges of its columns.
-// Refused: the from count as the number of columns; its ranges as relation 0's.
+// Refused: no columns; its ranges as relation 0's.
 pub fn basic_rules(frame: &[u8], shape: &[u8], ends: &mut [i32], r: u8) -> Ruled
     ensures { λ a. ⌜ Rules basicFrame (now (frame .entry)) r (now (shape .entry)) (now (ends .entry)) (now (ends .exit)) a ⌝ }
 {
-    let end = (slice::byte_at(frame, 1) as usize) + 2;
-    if frame.len() < end {
-        return none();
-    }
-    let items = &frame[2..end];
+    let items = frames::from_list(frame);
+    let parts = frames::parts_after(frame, false);
     let rule = plain(product_bound(items, shape));
-    let w = bounds::condition(frame, end + 1, items, shape, ends, rule);
-    let n = slice::byte_at(frame, end);
-    tail(frame, w, n, items, shape, ends, r, rule)
+    let w = bounds::condition(frame, parts.body, items, shape, ends, rule);
+    tail(frame, w, parts.width, items, shape, ends, r, rule)
 }
 
 // The same of an aggregate view.
-// Refused: the where left out; the first bytes behind the from list as grouping columns.
+// Refused: the where left out; the bytes of the where as grouping columns.
 pub fn grouped_rules(frame: &[u8], shape: &[u8], ends: &mut [i32], r: u8) -> Ruled
     ensures { λ a. ⌜ Rules groupedFrame (now (frame .entry)) r (now (shape .entry)) (now (ends .entry)) (now (ends .exit)) a ⌝ }
 {
-    let end = (slice::byte_at(frame, 1) as usize) + 2;
-    if frame.len() < end {
-        return none();
-    }
-    let items = &frame[2..end];
+    let items = frames::from_list(frame);
+    let parts = frames::parts_after(frame, true);
     let bound = product_bound(items, shape);
-    let w = bounds::condition(frame, end + 2, items, shape, ends, plain(bound));
-    let g = slice::byte_at(frame, end);
+    let w = bounds::condition(frame, parts.body, items, shape, ends, plain(bound));
     let places = inside(frame, w.next);
     let rule = Rule {
         bound: bound,
         grouped: true,
         places: places,
-        count: g,
+        count: parts.groups,
     };
-    let h = bounds::condition(frame, places + 2 * (g as usize), items, shape, ends, rule);
-    let n = slice::byte_at(frame, end + 1);
-    tail(frame, both(w, h), n, items, shape, ends, r, rule)
+    let having = places + 2 * (parts.groups as usize);
+    let h = bounds::condition(frame, having, items, shape, ends, rule);
+    tail(frame, both(w, h), parts.width, items, shape, ends, r, rule)
 }

@@ -6,8 +6,8 @@ use native.Mathlib.Omega.{arith}
 use lib.IntN.{ℤ}
 use Rattle.meaning.specs.Look.{Answer, After, answerIn, workIn, instIn}
 use Rattle.language.specs.Check.{Outcome}
+use Rattle.catalog.specs.declared.plan.Plan.{Plan}
 use Rattle.checker.specs.Plans.{Plans}
-use Rattle.checker.specs.declared.plan.Plan.{Plan}
 use Rattle.look.specs.Looks.{answerOf}
 use Rattle.language.specs.LookOf.{lookOf}
 use Rattle.look.specs.declared.Answer.{Answer as Answered}

@@ -15,7 +15,7 @@ use Rattle.meaning.proofs.Elements.{all-append, all-at}
 use Rattle.meaning.proofs.Digits.{size-above}
 use Rattle.meaning.proofs.Numbering.{all-copies}
 use Rattle.language.specs.Legal.{Legal, LegalTable, LegalColumn}
-use Rattle.look.specs.Moves.{noColumn}
+use Rattle.catalog.proofs.FileLaws.{noColumn}
 
 -- ---- quotients
 

@@ -17,10 +17,10 @@ use Rattle.meaning.proofs.LookTests.{look-short, look-late, look-on, verdict-ca
 use Rattle.language.specs.Check.{Outcome}
 use Rattle.language.specs.FileOf.{fileOf}
 use Rattle.checker.specs.Plans.{Plans}
-use Rattle.checker.specs.declared.plan.Plan.{Plan}
-use Rattle.language.proofs.TextLaws.{accepted-text}
-use Rattle.cases.specs.Given.{Given, Outlines}
-use Rattle.cases.specs.declared.outline.Outline.{Outline}
+use Rattle.catalog.specs.FileIn.{FileIn, goalOf}
+use Rattle.catalog.specs.declared.outline.Outline.{Outline}
+use Rattle.catalog.specs.declared.plan.Goal.{Goal}
+use Rattle.catalog.specs.declared.plan.Plan.{Plan}
 use Rattle.look.specs.Cells.{codesOf, cellsIn, TablesCoded}
 use Rattle.look.specs.Moves.{Digits}
 use Rattle.look.specs.Scans.{Searches}
@@ -44,63 +44,63 @@ concluded-spent {end} {n} h = record { concludes = rw (ne-eqb end n h) }
 zeros-same : (a b : List ℤ) → length a ≡ length b → zeros a ≡ zeros b
 zeros-same a b e = ap (λ n. replicate n (pos 0)) e
 
-digits : {F : File} {bytes starts shape : List ℕ} {o : Outline} {m : ℕ} {codes : List ℕ} → Given F bytes starts shape o
-    → TablesCoded shape (o .tables) (replicate 512 0) m codes → Digits F bytes starts codes m
-digits G C = digits-given G C refl
+digits : {F : File} {bytes starts shape : List ℕ} {ends : List ℤ} {o : Outline} {m : ℕ} {codes : List ℕ} → FileIn F bytes starts shape ends o
+    → TablesCoded shape (o .tables) (replicate 512 0) m codes → Digits F shape ends codes m
+digits M C = digits-given M C refl
 
-pub finds-short : {bytes starts shape : List ℕ} {o : Outline} {n start count : ℕ} {work inst : List ℤ} {m : ℕ} {codes : List ℕ}
-    → TablesCoded shape (o .tables) (replicate 512 0) m codes → length inst < m → Finds bytes starts shape o n start count work inst (Refused 12 0) work inst
+pub finds-short : {bytes starts shape : List ℕ} {ends : List ℤ} {o : Outline} {g : Goal} {n start count : ℕ} {work inst : List ℤ} {m : ℕ} {codes : List ℕ}
+    → TablesCoded shape (o .tables) (replicate 512 0) m codes → length inst < m → Finds bytes starts shape ends o g n start count work inst (Refused 12 0) work inst
 finds-short {start = start} {count} {work} {inst} C h = record {
-  finds = λ F G e whole. sym (look-short F start count work inst whole (omega (arith, digits G C .number)));
+  finds = λ F M f e whole. sym (look-short F start count work inst whole (omega (arith, digits M C .number)));
 }
 
-pub finds-late : {bytes starts shape : List ℕ} {o : Outline} {n start count : ℕ} {work inst : List ℤ} {m : ℕ} {codes : List ℕ}
+pub finds-late : {bytes starts shape : List ℕ} {ends : List ℤ} {o : Outline} {g : Goal} {n start count : ℕ} {work inst : List ℤ} {m : ℕ} {codes : List ℕ}
     → TablesCoded shape (o .tables) (replicate 512 0) m codes → m ≤ length inst → n < start
-    → Finds bytes starts shape o n start count work inst (Refused 13 0) work inst
+    → Finds bytes starts shape ends o g n start count work inst (Refused 13 0) work inst
 finds-late {start = start} {count} {work} {inst} C h l = record {
-  finds = λ F G e whole. sym (look-late F start count work inst whole (omega (arith, digits G C .number)) (omega arith));
+  finds = λ F M f e whole. sym (look-late F start count work inst whole (omega (arith, digits M C .number)) (omega arith));
 }
 
 -- the search of a look that is not refused has come to k
-pub record Sought (bytes starts shape : List ℕ) (o : Outline) (n start count : ℕ) (work inst : List ℤ) (codes : List ℕ) (m end k : ℕ) (work₁ : List ℤ) : Type 0 where
+pub record Sought (bytes starts shape : List ℕ) (ends : List ℤ) (o : Outline) (g : Goal) (n start count : ℕ) (work inst : List ℤ) (codes : List ℕ) (m end k : ℕ) (work₁ : List ℤ) : Type 0 where
   pub coded : TablesCoded shape (o .tables) (replicate 512 0) m codes
   pub room : m ≤ length inst
   pub from : start ≤ n
   pub to : end ≡ min (start + count) n
-  pub search : Searches bytes starts shape o codes m start end work k work₁
+  pub search : Searches bytes starts shape ends o g codes m start end work k work₁
 
-module _ {bytes starts shape : List ℕ} {o : Outline} {n start count : ℕ} {work inst : List ℤ} {codes : List ℕ} {m end k : ℕ} {work₁ : List ℤ}
-    (S : Sought bytes starts shape o n start count work inst codes m end k work₁) where
-  module _ (F : File) (G : Given F bytes starts shape o) (e : n ≡ candidates F) (whole : workSize ≤ length work) where
+module _ {bytes starts shape : List ℕ} {ends : List ℤ} {o : Outline} {g : Goal} {n start count : ℕ} {work inst : List ℤ} {codes : List ℕ} {m end k : ℕ} {work₁ : List ℤ}
+    (S : Sought bytes starts shape ends o g n start count work inst codes m end k work₁) where
+  module _ (F : File) (M : FileIn F bytes starts shape ends o) (f : goalOf g ≡ F .goal) (e : n ≡ candidates F) (whole : workSize ≤ length work) where
     found : (k ≡ seek (candidate F) start (end - start)) × (k < end → cellsIn work₁ (codesOf F) ≡ cells F k)
-    found = S .search .found F G (digits G (S .coded)) whole (omega (arith, S .from, S .to))
+    found = S .search .found F M f (digits M (S .coded)) whole (omega (arith, S .from, S .to))
 
     looks : look F start count work inst ≡ verdict F end k work inst
     looks =
-        look-on F start count work inst end whole (omega (arith, S .room, digits G (S .coded) .number)) (omega (arith, S .from))
+        look-on F start count work inst end whole (omega (arith, S .room, digits M (S .coded) .number)) (omega (arith, S .from))
         (S .to ∙ ap (min (start + count)) e)
         ∙ ap (λ i. verdict F end i work inst) (sym (found .0))
 
   pub finds-case : {work₂ inst₂ : List ℤ} → k < end → Shows codes m work₁ inst inst₂ → work₂ ≡ zeros work₁
-      → Finds bytes starts shape o n start count work inst (Case k) work₂ inst₂
+      → Finds bytes starts shape ends o g n start count work inst (Case k) work₂ inst₂
   finds-case {work₂} {inst₂} h W z = record {
-    finds = λ F G e whole.
-        let D : Digits F bytes starts codes m = digits G (S .coded) in
+    finds = λ F M f e whole.
+        let D : Digits F shape ends codes m = digits M (S .coded) in
         let w : work₂ ≡ zeros work = z ∙ zeros-same work₁ work (S .search .length-kept) in
         let i : inst₂ ≡ shownIn F k inst =
         W .shows (codesOf F) (D .codes-are) (S .room)
-        ∙ ap₂ (λ (a : List Value) (j : ℕ). map shown a ++ drop j inst) (found F G e whole .1 h) (sym (D .number)) in
-        ap₂ (λ (a b : List ℤ). After.after (Answer.case k) a b) w i ∙ sym (looks F G e whole ∙ verdict-case F work inst end k h);
+        ∙ ap₂ (λ (a : List Value) (j : ℕ). map shown a ++ drop j inst) (found F M f e whole .1 h) (sym (D .number)) in
+        ap₂ (λ (a b : List ℤ). After.after (Answer.case k) a b) w i ∙ sym (looks F M f e whole ∙ verdict-case F work inst end k h);
   }
 
   pub finds-none : {work₂ : List ℤ} {r : Answered} → end ≤ k → work₂ ≡ zeros work₁ → Concludes end n r
-      → Finds bytes starts shape o n start count work inst r work₂ inst
+      → Finds bytes starts shape ends o g n start count work inst r work₂ inst
   finds-none {work₂} {r} h z R = record {
-    finds = λ F G e whole.
+    finds = λ F M f e whole.
         let w : work₂ ≡ zeros work = z ∙ zeros-same work₁ work (S .search .length-kept) in
         let a : answerOf r ≡ cond (eqb end (candidates F)) Answer.noCase (Answer.spent end) =
         R .concludes ∙ ap (λ j. cond (eqb end j) Answer.noCase (Answer.spent end)) e in
-        ap₂ (λ (a : Answer) (b : List ℤ). After.after a b inst) a w ∙ sym (looks F G e whole ∙ verdict-none F work inst end k h);
+        ap₂ (λ (a : Answer) (b : List ℤ). After.after a b inst) a w ∙ sym (looks F M f e whole ∙ verdict-none F work inst end k h);
   }
 
 -- ---- a look at a plan
@@ -116,7 +116,7 @@ module _ {p : Plan} {start count : ℕ} {work inst : List ℤ} where
     inst-size = refl;
     short = λ _. refl;
     refused = λ whole k. absurd (omega arith);
-    accepted = λ F l P. sym (look-unsized F start count work inst h);
+    accepted = λ F P. sym (look-unsized F start count work inst h);
   }
 
   pub at-refused : workSize ≤ length work → (p .number ≡ 0 → ⊥) → LooksAt p start count work inst (Refused (p .number) (p .line)) work inst
@@ -125,28 +125,28 @@ module _ {p : Plan} {start count : ℕ} {work inst : List ℤ} where
     inst-size = refl;
     short = λ h. absurd (omega arith);
     refused = λ _ _. refl;
-    accepted = λ F l P. absurd (k (P .number));
+    accepted = λ F P. absurd (k (P .number));
   }
 
-  pub at-file : {o : Outline} {r : Answered} {work′ inst′ : List ℤ} → length work′ ≡ length work → length inst′ ≡ length inst → workSize ≤ length work
-      → p .number ≡ 0 → Outlines p o → Finds (p .bytes) (p .starts) (p .shape) o (p .candidates) start count work inst r work′ inst′
+  pub at-file : {r : Answered} {work′ inst′ : List ℤ} → length work′ ≡ length work → length inst′ ≡ length inst → workSize ≤ length work
+      → p .number ≡ 0 → Finds (p .bytes) (p .starts) (p .shape) (p .ends) (p .outline) (p .goal) (p .candidates) start count work inst r work′ inst′
       → LooksAt p start count work inst r work′ inst′
-  at-file w i whole z O L = record {
+  at-file w i whole z L = record {
     work-size = w;
     inst-size = i;
     short = λ h. absurd (omega arith);
     refused = λ _ k. absurd (k z);
-    accepted = λ F l P. L .finds F (O .given F l P) (P .candidates-are) whole;
+    accepted = λ F P. L .finds F (P .file) (P .goal) (P .candidates-are) whole;
   }
 
 -- ---- a look at a text
 
 module _ (text : List ℕ) {p : Plan} {start count : ℕ} {work inst : List ℤ} {r : Answered} {work′ inst′ : List ℤ}
     (L : LooksAt p start count work inst r work′ inst′) where
-  looks-so : workSize ≤ length work → (out : Outcome) → fileOf text ≡ out → Plans out p → After.after (answerOf r) work′ inst′ ≡ lookAt out start count work inst
-  looks-so whole (Outcome.refused n line) e P =
+  looks-so : workSize ≤ length work → (out : Outcome) → Plans out p → After.after (answerOf r) work′ inst′ ≡ lookAt out start count work inst
+  looks-so whole (Outcome.refused n line) P =
       L .refused whole (λ z. P .2 (sym (P .0) ∙ z)) ∙ ap₂ (λ a b. After.after (Answer.refused a b) work inst) (P .0) (P .1)
-  looks-so whole (Outcome.accepted F) e P = L .accepted F (accepted-text text F e .legal) P
+  looks-so whole (Outcome.accepted F) P = L .accepted F P
 
   -- a look at the plan of a text is one at the text
   pub looks-planned : Plans (fileOf text) p → After.after (answerOf r) work′ inst′ ≡ lookOf text start count work inst
@@ -154,4 +154,4 @@ module _ (text : List ℕ) {p : Plan} {start count : ℕ} {work inst : List ℤ}
   looks-planned P =
       by-test (ltb (length work) workSize)
       (λ t. rw t (L .short (ltb-true (length work) workSize t)))
-      (λ t. rw t (looks-so (ltb-false (length work) workSize t) (fileOf text) refl P))
+      (λ t. rw t (looks-so (ltb-false (length work) workSize t) (fileOf text) P))

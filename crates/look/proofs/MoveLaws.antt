@@ -1,7 +1,7 @@
 -- One cell takes its digit, and the cells from the last one back. Assumes nothing.
 use mathlib.Core.Path.{_≡_, refl, sym, ap, ap₂, _∙_, subst}
 use mathlib.Core.List.{List, [], _∷_, _++_}
-use Prim.Native.Nat.{ℕ, zero, suc, _+_, _*_, _-_, _/_, _%_, _≤_, _<_}
+use Prim.Native.Nat.{ℕ, zero, suc, _-_, _/_, _%_, _≤_, _<_}
 use native.Mathlib.Nat.{mod-eq-of-lt, mod-lt, div-one}
 use native.Mathlib.Omega.{arith}
 use lib.IntN.{ℤ}
@@ -12,43 +12,39 @@ use mir.Val.{Fits}
 use Rattle.value.specs.Value.{Value, Column, size, digit, narrowed}
 use Rattle.meaning.specs.Syntax.{File}
 use Rattle.meaning.specs.Candidates.{cellColumns, product, values, cells}
-use Rattle.checker.specs.Entries.{columnFrom}
+use Rattle.meaning.proofs.ListSteps.{map-at}
+use Rattle.catalog.specs.Arrays.{columnAt}
+use Rattle.catalog.proofs.FileLaws.{noColumn}
 use Rattle.store.specs.Layout.{area, putCell}
 use Rattle.store.proofs.CellLaws.{put-cell-length}
 use Rattle.look.specs.Cells.{codesOf, cellsIn}
-use Rattle.look.specs.Moves.{columnAt, noColumn, Digits, DigitPut, Placed, Moved}
+use Rattle.look.specs.Moves.{codeColumn, Digits, DigitPut, Placed, Moved}
 use Rattle.look.specs.declared.moves.Quotients.{Quotients}
 use Rattle.look.proofs.Distinct.{codes-rise, rising-within, cell-put}
 use Rattle.look.proofs.DigitLaws.{same-leading, drop-values, values-step, quotient-step, column-legal, legal-size, digit-held}
 
 -- ---- the column of a cell
 
-pub column-found : (bytes starts : List ℕ) (x frame : ℕ) (d : Column) → (x / 32 % 256 < length starts → frame ≡ getD starts (x / 32 % 256) 0 + 1)
-    → d ≡ columnFrom bytes (frame + 4 + 4 * (x % 4)) → x < 512 → length starts ≡ 16 → d ≡ columnAt bytes starts x
-unfolding columnAt
-column-found bytes starts x frame d f e h n =
-    let l : x / 32 < 16 = omega arith in
-    let t : x / 32 % 256 ≡ x / 32 = mod-eq-of-lt (omega arith) in
-    let g : frame ≡ getD starts (x / 32) 0 + 1 = f (omega arith) ∙ ap (λ (i : ℕ). getD starts i 0 + 1) t in
-    let a : frame + 4 + 4 * (x % 4) ≡ getD starts (x / 32) 0 + 5 + 4 * (x % 4) = omega arith in
-    e ∙ ap (columnFrom bytes) a
+pub column-found : (shape : List ℕ) (ends : List ℤ) (x : ℕ) {d : Column} → d ≡ columnAt shape ends (x / 32 % 256) (x % 4) → x < 512
+    → d ≡ codeColumn shape ends x
+column-found shape ends x e h = e ∙ ap (λ (t : ℕ). columnAt shape ends t (x % 4)) (mod-eq-of-lt (omega arith))
 
 -- ---- one digit
 
-module _ {bytes starts : List ℕ} {x : ℕ} {q : Quotients} {work : List ℤ} (d : Column) (found : x < 512 → length starts ≡ 16 → d ≡ columnAt bytes starts x) where
+module _ {shape : List ℕ} {ends : List ℤ} {x : ℕ} {q : Quotients} {work : List ℤ} (d : Column) (found : x < 512 → d ≡ codeColumn shape ends x) where
   -- no column is without digits
-  pub none-put : size d ≡ 0 → DigitPut bytes starts x q work q work
+  pub none-put : size d ≡ 0 → DigitPut shape ends x q work q work
   none-put z = record {
     length-kept = refl;
-    put = λ c h n e s. let p : size c ≡ 0 = ap size (sym (found h n ∙ e)) ∙ z in absurd (omega arith);
+    put = λ c h e s. let p : size c ≡ 0 = ap size (sym (found h ∙ e)) ∙ z in absurd (omega arith);
   }
 
   pub digit-put : {work′ : List ℤ} (s : ℕ) (v : Value) → s ≡ size d → v ≡ narrowed (digit d (q .new % s)) → work′ ≡ putCell work (x / 32) (x / 4 % 8) (x % 4) v
-      → DigitPut bytes starts x q work (record { old = q .old / s; new = q .new / s }) work′
+      → DigitPut shape ends x q work (record { old = q .old / s; new = q .new / s }) work′
   digit-put s v k w p = record {
     length-kept = ap length p ∙ put-cell-length work (x / 32) (x / 4 % 8) (x % 4) v;
-    put = λ c h n e o.
-        let f : d ≡ c = found h n ∙ e in
+    put = λ c h e o.
+        let f : d ≡ c = found h ∙ e in
         let z : s ≡ size c = k ∙ ap size f in (
           p ∙ ap (putCell work (x / 32) (x / 4 % 8) (x % 4)) (w ∙ ap₂ (λ (a : Column) (b : ℕ). narrowed (digit a (q .new % b))) f z),
           ap (λ (b : ℕ). q .old / b) z,
@@ -74,15 +70,15 @@ pub record Going (F : File) (k next : ℕ) (before : List Value) (work : List �
   pub first : take j (cellsIn work (codesOf F)) ≡ take j before
   pub rest : drop j (cellsIn work (codesOf F)) ≡ values (drop j (cellColumns (F .tables))) next
 
-pub record Under (bytes starts codes : List ℕ) (n k next : ℕ) (work₀ work : List ℤ) (j : ℕ) (q : Quotients) : Type 0 where
+pub record Under (shape : List ℕ) (ends : List ℤ) (codes : List ℕ) (n k next : ℕ) (work₀ work : List ℤ) (j : ℕ) (q : Quotients) : Type 0 where
   pub length-kept : length work ≡ length work₀
   pub bound : j ≤ n
-  pub going : (F : File) → Digits F bytes starts codes n → area ≤ length work₀ → Going F k next (cellsIn work₀ (codesOf F)) work j q
+  pub going : (F : File) → Digits F shape ends codes n → area ≤ length work₀ → Going F k next (cellsIn work₀ (codesOf F)) work j q
 
 -- no cell yet
-going-first : {bytes starts codes : List ℕ} {n : ℕ} (k next : ℕ) (work₀ : List ℤ) (F : File) → Digits F bytes starts codes n
+going-first : {shape : List ℕ} {ends : List ℤ} {codes : List ℕ} {n : ℕ} (k next : ℕ) (work₀ : List ℤ) (F : File) → Digits F shape ends codes n
     → Going F k next (cellsIn work₀ (codesOf F)) work₀ n (record { old = k; new = next })
-going-first {bytes} {starts} {codes} {n} k next work₀ F D =
+going-first {shape} {ends} {codes} {n} k next work₀ F D =
     let cs = cellColumns (F .tables) in
     let e : drop n cs ≡ [] = drop-of-length-le cs {i = n} (omega (arith, D .number)) in
     let f : drop n (cellsIn work₀ (codesOf F)) ≡ [] =
@@ -100,10 +96,10 @@ drop-set (y ∷ l) zero u t = refl
 drop-set (y ∷ l) (suc m) u t = drop-set l m u (omega arith)
 
 -- one cell more
-going-next : {bytes starts codes : List ℕ} {n k next : ℕ} (F : File) {before : List Value} {work work′ : List ℤ} {i : ℕ} {q r : Quotients}
-    → Digits F bytes starts codes n → i < n → area ≤ length work
-    → Going F k next before work (suc i) q → DigitPut bytes starts (getD codes i 0) q work r work′ → Going F k next before work′ i r
-going-next {bytes} {starts} {codes} {n} {k} {next} F {before} {work} {work′} {i} {q} {r} D h a g p =
+going-next : {shape : List ℕ} {ends : List ℤ} {codes : List ℕ} {n k next : ℕ} (F : File) {before : List Value} {work work′ : List ℤ} {i : ℕ} {q r : Quotients}
+    → Digits F shape ends codes n → i < n → area ≤ length work
+    → Going F k next before work (suc i) q → DigitPut shape ends (getD codes i 0) q work r work′ → Going F k next before work′ i r
+going-next {shape} {ends} {codes} {n} {k} {next} F {before} {work} {work′} {i} {q} {r} D h a g p =
     let xs = codesOf F in
     let cs = cellColumns (F .tables) in
     let c = getD cs i noColumn in
@@ -113,8 +109,9 @@ going-next {bytes} {starts} {codes} {n} {k} {next} F {before} {work} {work′} {
     let lc : i < length cs = omega (arith, D .number) in
     let L = column-legal F (D .legal) i lc in
     let ex : getD codes i 0 ≡ x = sym (getD-take n codes i 0 h) ∙ ap (λ (l : List ℕ). getD l i 0) (D .codes-are .there) in
-    let P : DigitPut bytes starts x q work r work′ = subst (λ (y : ℕ). DigitPut bytes starts y q work r work′) ex p in
-    let d = P .put c (rising-within R i lx .1) (D .starts-size) (D .columns i h) (legal-size c L) in
+    let P : DigitPut shape ends x q work r work′ = subst (λ (y : ℕ). DigitPut shape ends y q work r work′) ex p in
+    let ec : codeColumn shape ends x ≡ c = sym (map-at (codeColumn shape ends) xs i 0 noColumn lx) ∙ ap (λ (l : List Column). getD l i noColumn) (D .columns) in
+    let d = P .put c (rising-within R i lx .1) ec (legal-size c L) in
     let ev : narrowed (digit c (q .new % size c)) ≡ digit c (next / product (drop (suc i) cs) % size c) =
     digit-held c L (q .new) ∙ ap (λ (m : ℕ). digit c (m % size c)) (g .new) in
     let v = digit c (next / product (drop (suc i) cs) % size c) in
@@ -146,16 +143,16 @@ rest-there {k} {next} F {work} {j} {q} e g =
     ∙ ap₂ (λ (a b : List Value). a ++ b) (g .first ∙ same-leading cs j k next (sym (g .old) ∙ e ∙ g .new)) (g .rest ∙ sym (drop-values cs j next))
     ∙ take-append-drop j (values cs next)
 
-module _ {bytes starts codes : List ℕ} {n k next : ℕ} {work₀ : List ℤ} where
-  pub under-first : Under bytes starts codes n k next work₀ work₀ n (record { old = k; new = next })
+module _ {shape : List ℕ} {ends : List ℤ} {codes : List ℕ} {n k next : ℕ} {work₀ : List ℤ} where
+  pub under-first : Under shape ends codes n k next work₀ work₀ n (record { old = k; new = next })
   under-first = record { length-kept = refl; bound = omega arith; going = λ F D a. going-first k next work₀ F D }
 
-  pub under-next : {work work′ : List ℤ} {j x : ℕ} {q r : Quotients} → 0 < j → Under bytes starts codes n k next work₀ work j q → x ≡ getD codes (j - 1) 0
-      → DigitPut bytes starts x q work r work′ → Under bytes starts codes n k next work₀ work′ (j - 1) r
+  pub under-next : {work work′ : List ℤ} {j x : ℕ} {q r : Quotients} → 0 < j → Under shape ends codes n k next work₀ work j q → x ≡ getD codes (j - 1) 0
+      → DigitPut shape ends x q work r work′ → Under shape ends codes n k next work₀ work′ (j - 1) r
   under-next {work} {work′} {j} {x} {q} {r} h u e p =
       let b : j ≤ n = u .bound in
       let s : j ≡ suc (j - 1) = omega arith in
-      let P : DigitPut bytes starts (getD codes (j - 1) 0) q work r work′ = subst (λ (y : ℕ). DigitPut bytes starts y q work r work′) e p in
+      let P : DigitPut shape ends (getD codes (j - 1) 0) q work r work′ = subst (λ (y : ℕ). DigitPut shape ends y q work r work′) e p in
       record {
         length-kept = p .length-kept ∙ u .length-kept;
         bound = omega arith;
@@ -163,17 +160,17 @@ module _ {bytes starts codes : List ℕ} {n k next : ℕ} {work₀ : List ℤ} w
             (subst (λ (i : ℕ). Going F k next (cellsIn work₀ (codesOf F)) work i q) s (u .going F D a)) P;
       }
 
-  pub moved-all : {work : List ℤ} {j : ℕ} {q : Quotients} → j ≤ 0 → Under bytes starts codes n k next work₀ work j q
-      → Moved bytes starts codes n k next work₀ work
+  pub moved-all : {work : List ℤ} {j : ℕ} {q : Quotients} → j ≤ 0 → Under shape ends codes n k next work₀ work j q
+      → Moved shape ends codes n k next work₀ work
   moved-all h u = record { length-kept = u .length-kept; moved = λ F D a e. all-there F (omega arith) (u .going F D a) }
 
-  pub moved-enough : {work : List ℤ} {j : ℕ} {q : Quotients} → q .old ≡ q .new → Under bytes starts codes n k next work₀ work j q
-      → Moved bytes starts codes n k next work₀ work
+  pub moved-enough : {work : List ℤ} {j : ℕ} {q : Quotients} → q .old ≡ q .new → Under shape ends codes n k next work₀ work j q
+      → Moved shape ends codes n k next work₀ work
   moved-enough {work} {j} {q} s u = record {
     length-kept = u .length-kept;
     moved = λ F D a e. rest-there F s (subst (λ (b : List Value). Going F k next b work j q) e (u .going F D a));
   }
 
-  pub placed-all : {work : List ℤ} {j : ℕ} {q : Quotients} → j ≤ 0 → Under bytes starts codes n k next work₀ work j q
-      → Placed bytes starts codes n next work₀ work
+  pub placed-all : {work : List ℤ} {j : ℕ} {q : Quotients} → j ≤ 0 → Under shape ends codes n k next work₀ work j q
+      → Placed shape ends codes n next work₀ work
   placed-all h u = record { length-kept = u .length-kept; placed = λ F D a. all-there F (omega arith) (u .going F D a) }

@@ -14,6 +14,7 @@ use Rattle.value.proofs.Decides.{by-test}
 use Rattle.value.proofs.Values.{all-map}
 use Rattle.meaning.specs.Syntax.{File, Row}
 use Rattle.meaning.specs.Evaluation.{missing}
+use Rattle.meaning.specs.Cases.{isCase}
 use Rattle.meaning.specs.Candidates.{cells, database}
 use Rattle.meaning.specs.Look.{candidate}
 use Rattle.meaning.proofs.Demand3.{every-database}
@@ -21,17 +22,18 @@ use Rattle.meaning.proofs.Elements.{map-same}
 use Rattle.meaning.proofs.Seeks.{sought-one}
 use Rattle.language.specs.Legal.{Legal}
 use Rattle.language.proofs.LegalAccepted.{legal-wellFormed}
+use Rattle.catalog.specs.FileIn.{FileIn, TablesCounted, goalOf}
+use Rattle.catalog.specs.declared.outline.Outline.{Outline}
+use Rattle.catalog.specs.declared.plan.Goal.{Goal}
 use Rattle.store.specs.Layout.{area}
 use Rattle.store.proofs.RowLaws.{cell-of-rows}
 use Rattle.views.proofs.Marking.{never}
-use Rattle.cases.specs.Given.{Given, TablesCounted}
-use Rattle.cases.specs.Needs.{NeedsOf}
-use Rattle.cases.specs.Judgement.{Ready, TablesKept, Judges}
-use Rattle.cases.specs.declared.outline.Outline.{Outline}
+use Rattle.cases.specs.Needs.{GoalIn, Covers, NeedsOf}
+use Rattle.cases.specs.Judgement.{Ready, TablesKept, IsCase}
 use Rattle.cases.proofs.Preparing.{counts-are}
 use Rattle.look.specs.Cells.{codesOf, cellAt, cellsIn}
 use Rattle.look.specs.Moves.{Digits, Placed, Moved}
-use Rattle.look.specs.Scans.{Plan, At, Tests, Scans, Searches}
+use Rattle.look.specs.Scans.{Setting, At, Tests, Scans, Searches}
 use Rattle.look.proofs.Distinct.{Rising, rising-within, codes-inside}
 use Rattle.look.proofs.Standing.{tables-stand}
 
@@ -62,9 +64,9 @@ module _ {F : File} (L : Legal F) where
 -- ---- a candidate stands in the work area
 
 -- a candidate that was placed
-pub placed-at : {F : File} {bytes starts shape : List ℕ} {o : Outline} {codes : List ℕ} {n k : ℕ} {work work₁ : List ℤ} {counts : List ℕ}
-    → Given F bytes starts shape o → Digits F bytes starts codes n → TablesCounted shape (o .tables) (replicate 16 0) counts
-    → area ≤ length work → Placed bytes starts codes n k work work₁ → At F counts (replicate 16 0) work₁ k
+pub placed-at : {F : File} {bytes starts shape : List ℕ} {ends : List ℤ} {o : Outline} {codes : List ℕ} {n k : ℕ} {work work₁ : List ℤ} {counts : List ℕ}
+    → FileIn F bytes starts shape ends o → Digits F shape ends codes n → TablesCounted shape (o .tables) (replicate 16 0) counts
+    → area ≤ length work → Placed shape ends codes n k work work₁ → At F counts (replicate 16 0) work₁ k
 placed-at {F} G D C whole P = record {
   counts-size = C .size;
   refuted-size = refl;
@@ -74,9 +76,9 @@ placed-at {F} G D C whole P = record {
 }
 
 -- the next one, after a test and a move
-pub moved-at : {F : File} {bytes starts shape : List ℕ} {o : Outline} {codes : List ℕ} {n k next : ℕ} {counts refuted counts₁ refuted₁ : List ℕ} {work work₁ work₂ : List ℤ}
-    → Given F bytes starts shape o → Digits F bytes starts codes n → TablesKept (o .tables) counts work counts₁ work₁ → length refuted₁ ≡ length refuted
-    → Moved bytes starts codes n k next work₁ work₂ → At F counts refuted work k → At F counts₁ refuted₁ work₂ next
+pub moved-at : {F : File} {bytes starts shape : List ℕ} {ends : List ℤ} {o : Outline} {codes : List ℕ} {n k next : ℕ} {counts refuted counts₁ refuted₁ : List ℕ} {work work₁ work₂ : List ℤ}
+    → FileIn F bytes starts shape ends o → Digits F shape ends codes n → TablesKept (o .tables) counts work counts₁ work₁ → length refuted₁ ≡ length refuted
+    → Moved shape ends codes n k next work₁ work₂ → At F counts refuted work k → At F counts₁ refuted₁ work₂ next
 moved-at {F} G D K e M A = record {
   counts-size = K .counts-size ∙ A .counts-size;
   refuted-size = e ∙ A .refuted-size;
@@ -87,24 +89,34 @@ moved-at {F} G D K e M A = record {
 
 -- ---- a candidate is tested
 
-pub ready : {F : File} {bytes starts shape needed asked : List ℕ} {o : Outline} {counts refuted : List ℕ} {work : List ℤ} {k : ℕ}
-    → Plan F bytes starts shape needed asked o → At F counts refuted work k → Ready F (database F k) needed asked counts refuted work
+-- the flags of the file's own goal
+pub setting : {F : File} {bytes starts shape : List ℕ} {ends : List ℤ} {needed asked : List ℕ} {o : Outline} {g : Goal}
+    → FileIn F bytes starts shape ends o → goalOf g ≡ F .goal → NeedsOf bytes starts o g (replicate 16 0) (replicate 16 0) needed asked
+    → Setting F bytes starts shape ends needed asked o g
+setting {F} {needed = needed} {asked} M e N = record {
+  file = M;
+  goal = e;
+  covers = subst (λ x. GoalIn F x → Covers F x needed asked) e (λ h. N .covers M h refl refl) (M .legal .goal);
+}
+
+pub ready : {F : File} {bytes starts shape : List ℕ} {ends : List ℤ} {needed asked : List ℕ} {o : Outline} {g : Goal} {counts refuted : List ℕ} {work : List ℤ} {k : ℕ}
+    → Setting F bytes starts shape ends needed asked o g → At F counts refuted work k → Ready F (F .goal) (database F k) needed asked counts refuted work
 ready {F} {counts = counts} {work = work} {k = k} P A = record {
   covers = P .covers;
-  shaped = every-database F (legal-wellFormed F (P .given .legal)) .shaped k;
-  tables = record { table = λ t h. rw (A .rows t h) (tables-stand k work (P .given .legal) (A .cells) t h) };
+  shaped = every-database F (legal-wellFormed F (P .file .legal)) .shaped k;
+  tables = record { table = λ t h. rw (A .rows t h) (tables-stand k work (P .file .legal) (A .cells) t h) };
   whole = A .whole;
   counts-size = A .counts-size;
   refuted-size = A .refuted-size;
 }
 
-module _ {bytes starts shape needed asked : List ℕ} {o : Outline} {k : ℕ} {counts refuted : List ℕ} {work : List ℤ} {counts′ refuted′ : List ℕ} {work′ : List ℤ} {b : Bool}
-    (J : Judges bytes starts shape needed asked o counts refuted work b counts′ refuted′ work′) where
-  judged : (F : File) → Plan F bytes starts shape needed asked o → At F counts refuted work k → b ≡ candidate F k
+module _ {bytes starts shape needed asked : List ℕ} {o : Outline} {g : Goal} {k : ℕ} {counts refuted : List ℕ} {work : List ℤ} {counts′ refuted′ : List ℕ} {work′ : List ℤ} {b : Bool}
+    (J : IsCase bytes starts shape needed asked o g counts refuted work b counts′ refuted′ work′) where
+  pub judged : (F : File) {ends : List ℤ} → Setting F bytes starts shape ends needed asked o g → At F counts refuted work k → b ≡ candidate F k
   unfolding candidate
-  judged F P A = J .case F (database F k) (P .given) (ready P A)
+  judged F P A = subst (λ x. Ready F x (database F k) needed asked counts refuted work → b ≡ isCase F x (database F k)) (P .goal) (J .case (P .file)) (ready P A)
 
-  pub tests-case : k < 18446744073709551615 → b ≡ true → Tests bytes starts shape needed asked o k counts refuted work k counts′ refuted′ work′
+  pub tests-case : k < 18446744073709551615 → b ≡ true → Tests bytes starts shape needed asked o g k counts refuted work k counts′ refuted′ work′
   tests-case l e = record {
     kept = J .kept;
     refuted-size = J .refuted-size;
@@ -117,7 +129,7 @@ module _ {bytes starts shape needed asked : List ℕ} {o : Outline} {k : ℕ} {c
     };
   }
 
-  pub tests-none : k < 18446744073709551615 → b ≡ false → Tests bytes starts shape needed asked o k counts refuted work (k + 1) counts′ refuted′ work′
+  pub tests-none : k < 18446744073709551615 → b ≡ false → Tests bytes starts shape needed asked o g k counts refuted work (k + 1) counts′ refuted′ work′
   tests-none l e = record {
     kept = J .kept;
     refuted-size = J .refuted-size;
@@ -133,17 +145,18 @@ module _ {bytes starts shape needed asked : List ℕ} {o : Outline} {k : ℕ} {c
 -- ---- the loop
 
 -- nothing from the start on and before k is a case, and the cells of candidate k stand in the work area
-pub record Scanned (bytes starts shape needed asked : List ℕ) (o : Outline) (codes : List ℕ) (n start : ℕ) (counts refuted : List ℕ) (work : List ℤ) (k : ℕ) (counts′ refuted′ : List ℕ) (work′ : List ℤ) : Type 0 where
+pub record Scanned (bytes starts shape : List ℕ) (ends : List ℤ) (needed asked : List ℕ) (o : Outline) (g : Goal)
+    (codes : List ℕ) (n start : ℕ) (counts refuted : List ℕ) (work : List ℤ) (k : ℕ) (counts′ refuted′ : List ℕ) (work′ : List ℤ) : Type 0 where
   pub from : start ≤ k
   pub length-kept : length work′ ≡ length work
   pub counts-size : length counts′ ≡ length counts
   pub refuted-size : length refuted′ ≡ length refuted
-  pub here : (F : File) → Plan F bytes starts shape needed asked o → Digits F bytes starts codes n → At F counts refuted work start → At F counts′ refuted′ work′ k
-  pub none : (F : File) → Plan F bytes starts shape needed asked o → Digits F bytes starts codes n → At F counts refuted work start
+  pub here : (F : File) → Setting F bytes starts shape ends needed asked o g → Digits F shape ends codes n → At F counts refuted work start → At F counts′ refuted′ work′ k
+  pub none : (F : File) → Setting F bytes starts shape ends needed asked o g → Digits F shape ends codes n → At F counts refuted work start
       → (j : ℕ) → start ≤ j → j < k → candidate F j ≡ false
 
-module _ {bytes starts shape needed asked : List ℕ} {o : Outline} {codes : List ℕ} {n start : ℕ} {counts refuted : List ℕ} {work : List ℤ} where
-  pub scanned-none : Scanned bytes starts shape needed asked o codes n start counts refuted work start counts refuted work
+module _ {bytes starts shape : List ℕ} {ends : List ℤ} {needed asked : List ℕ} {o : Outline} {g : Goal} {codes : List ℕ} {n start : ℕ} {counts refuted : List ℕ} {work : List ℤ} where
+  pub scanned-none : Scanned bytes starts shape ends needed asked o g codes n start counts refuted work start counts refuted work
   scanned-none = record {
     from = omega arith;
     length-kept = refl;
@@ -153,16 +166,16 @@ module _ {bytes starts shape needed asked : List ℕ} {o : Outline} {codes : Lis
     none = λ F P D A j a b. absurd (omega arith);
   }
 
-  module _ {k r : ℕ} {counts₁ refuted₁ : List ℕ} {work₁ : List ℤ} (S : Scanned bytes starts shape needed asked o codes n start counts refuted work k counts₁ refuted₁ work₁)
-      {counts₂ refuted₂ : List ℕ} {work₂ : List ℤ} (T : Tests bytes starts shape needed asked o k counts₁ refuted₁ work₁ r counts₂ refuted₂ work₂) where
-    pub scanned-more : (r ≡ k → ⊥) → {work₃ : List ℤ} → Moved bytes starts codes n k r work₂ work₃
-        → Scanned bytes starts shape needed asked o codes n start counts refuted work r counts₂ refuted₂ work₃
+  module _ {k r : ℕ} {counts₁ refuted₁ : List ℕ} {work₁ : List ℤ} (S : Scanned bytes starts shape ends needed asked o g codes n start counts refuted work k counts₁ refuted₁ work₁)
+      {counts₂ refuted₂ : List ℕ} {work₂ : List ℤ} (T : Tests bytes starts shape needed asked o g k counts₁ refuted₁ work₁ r counts₂ refuted₂ work₂) where
+    pub scanned-more : (r ≡ k → ⊥) → {work₃ : List ℤ} → Moved shape ends codes n k r work₂ work₃
+        → Scanned bytes starts shape ends needed asked o g codes n start counts refuted work r counts₂ refuted₂ work₃
     scanned-more d {work₃} M = record {
       from = omega (arith, S .from, T .follows);
       length-kept = M .length-kept ∙ T .kept .size ∙ S .length-kept;
       counts-size = T .kept .counts-size ∙ S .counts-size;
       refuted-size = T .refuted-size ∙ S .refuted-size;
-      here = λ F P D A. moved-at (P .given) D (T .kept) (T .refuted-size) M (S .here F P D A);
+      here = λ F P D A. moved-at (P .file) D (T .kept) (T .refuted-size) M (S .here F P D A);
       none = λ F P D A j a b. by-test (ltb j k)
           (λ e. S .none F P D A j a (ltb-true j k e))
           (λ e. let h = ltb-false j k e in by-test (candidate F j)
@@ -170,7 +183,7 @@ module _ {bytes starts shape needed asked : List ℕ} {o : Outline} {codes : Lis
           (λ c. c));
     }
 
-    pub scanned-found : {end : ℕ} → k < end → r ≡ k → Scans bytes starts shape needed asked o codes n start end counts refuted work k work₂
+    pub scanned-found : {end : ℕ} → k < end → r ≡ k → Scans bytes starts shape ends needed asked o g codes n start end counts refuted work k work₂
     scanned-found {end} l e = record {
       length-kept = T .kept .size ∙ S .length-kept;
       found = λ F P D A h.
@@ -181,12 +194,12 @@ module _ {bytes starts shape needed asked : List ℕ} {o : Outline} {codes : Lis
               none = S .none F P D A;
               hit = λ _. T .passed F P X start .hit e;
             }),
-            λ _. cells-kept (P .given .legal) (P .given .tables) (T .kept) ∙ X .cells,
+            λ _. cells-kept (P .file .legal) (P .file .tables) (T .kept) ∙ X .cells,
           );
     }
 
-  pub scanned-all : {k end : ℕ} {counts₁ refuted₁ : List ℕ} {work₁ : List ℤ} → Scanned bytes starts shape needed asked o codes n start counts refuted work k counts₁ refuted₁ work₁
-      → end ≤ k → Scans bytes starts shape needed asked o codes n start end counts refuted work end work₁
+  pub scanned-all : {k end : ℕ} {counts₁ refuted₁ : List ℕ} {work₁ : List ℤ} → Scanned bytes starts shape ends needed asked o g codes n start counts refuted work k counts₁ refuted₁ work₁
+      → end ≤ k → Scans bytes starts shape ends needed asked o g codes n start end counts refuted work end work₁
   scanned-all {k} {end} S l = record {
     length-kept = S .length-kept;
     found = λ F P D A h. (
@@ -202,11 +215,11 @@ module _ {bytes starts shape needed asked : List ℕ} {o : Outline} {codes : Lis
 
 -- ---- the search
 
-pub searches : {bytes starts shape : List ℕ} {o : Outline} {codes : List ℕ} {n start end : ℕ} {work work₁ work₂ : List ℤ} {counts needed asked : List ℕ} {r : ℕ}
-    → TablesCounted shape (o .tables) (replicate 16 0) counts → NeedsOf bytes starts o (replicate 16 0) (replicate 16 0) needed asked
-    → Placed bytes starts codes n start work work₁ → Scans bytes starts shape needed asked o codes n start end counts (replicate 16 0) work₁ r work₂
-    → Searches bytes starts shape o codes n start end work r work₂
+pub searches : {bytes starts shape : List ℕ} {ends : List ℤ} {o : Outline} {g : Goal} {codes : List ℕ} {n start end : ℕ} {work work₁ work₂ : List ℤ} {counts needed asked : List ℕ} {r : ℕ}
+    → TablesCounted shape (o .tables) (replicate 16 0) counts → NeedsOf bytes starts o g (replicate 16 0) (replicate 16 0) needed asked
+    → Placed shape ends codes n start work work₁ → Scans bytes starts shape ends needed asked o g codes n start end counts (replicate 16 0) work₁ r work₂
+    → Searches bytes starts shape ends o g codes n start end work r work₂
 searches {shape = shape} C N P S = record {
   length-kept = S .length-kept ∙ P .length-kept;
-  found = λ F G D whole h. S .found F (record { given = G; covers = N .covers F shape G refl refl }) D (placed-at G D C whole P) h;
+  found = λ F M e D whole h. S .found F (setting M e N) D (placed-at M D C whole P) h;
 }

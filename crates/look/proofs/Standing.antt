@@ -1,37 +1,29 @@
--- The bytes say the column of each cell, and tables whose cells are those of a candidate are those of its database. Assumes nothing.
-use mathlib.Core.Path.{_≡_, refl, sym, ap, ap₂, _∙_}
+-- The arrays say the column of each cell, and tables whose cells are those of a candidate are those of its database. Assumes nothing.
+use mathlib.Core.Path.{_≡_, refl, sym, ap, ap₂, subst, _∙_}
 use mathlib.Core.List.{List, [], _∷_, _++_, map, map-append, append-assoc, append-nil}
 use Prim.Native.Nat.{ℕ, zero, suc, _+_, _*_, _/_, _%_, _≤_, _<_}
 use native.Mathlib.Omega.{arith}
 use lib.IntN.{ℤ}
 use lib.ListN.{length, getD, drop}
-use lib.Seq.{drop-drop, drop-at}
+use lib.Seq.{drop-at}
 use Rattle.value.specs.Bag.{All}
-use Rattle.value.specs.Value.{Value, Column}
-use Rattle.value.proofs.Values.{all-map}
+use Rattle.value.specs.Value.{Value}
 use Rattle.meaning.specs.Lists.{copies, joined}
 use Rattle.meaning.specs.Syntax.{Table, File, Row, Database}
 use Rattle.meaning.specs.Candidates.{cellColumns, cutRows, cut, cells, database}
 use Rattle.meaning.proofs.Elements.{all-append}
-use Rattle.meaning.proofs.ListSteps.{map-at}
 use Rattle.meaning.proofs.Numbering.{length-joined, cut-joined}
-use Rattle.catalog.specs.Arrays.{widthAt, boundAt}
-use Rattle.checker.specs.Entries.{columnFrom}
-use Rattle.checker.specs.Packed.{columnsFrom}
+use Rattle.catalog.specs.Arrays.{widthAt, boundAt, columnAt}
+use Rattle.catalog.specs.FileIn.{FileIn}
+use Rattle.catalog.specs.declared.outline.Outline.{Outline}
+use Rattle.catalog.proofs.FileLaws.{noColumn, rows-are, columns-are, column-is}
 use Rattle.language.specs.Legal.{Legal, LegalTable, tableAt}
-use Rattle.language.specs.Written.{columnBytes, tableBytes}
-use Rattle.checker.proofs.CandidateLaws.{columns-back}
-use Rattle.checker.proofs.PlanLaws.{legal-bits}
 use Rattle.store.specs.Layout.{cellIn}
 use Rattle.store.specs.Rows.{listed, rowIn, rowsIn}
 use Rattle.store.proofs.Listed.{listed-same, length-listed, listed-getD}
 use Rattle.store.proofs.RowLaws.{rows-length}
-use Rattle.cases.specs.Given.{Given}
-use Rattle.cases.specs.declared.outline.Outline.{Outline}
-use Rattle.cases.proofs.OutlineLaws.{bound-is}
-use Rattle.cases.proofs.ValidLaws.{table-width}
 use Rattle.look.specs.Cells.{code, rowCodes, tableCodes, allCodes, codesOf, cellAt, cellsIn, TablesCoded}
-use Rattle.look.specs.Moves.{columnAt, noColumn, Digits}
+use Rattle.look.specs.Moves.{codeColumn, Digits}
 use Rattle.look.proofs.CodeLaws.{codesFrom, codes-of, codes-few, codes-same, length-codes}
 
 -- ---- what a code says
@@ -68,95 +60,71 @@ copies-snoc (suc n) xs = append-assoc xs (copies n xs) xs ∙ ap (λ l. xs ++ l)
 
 -- ---- the column of a code
 
-column-of : (bytes : List ℕ) (at n c : ℕ) (d : Column) → c < n → columnFrom bytes (at + 4 * c) ≡ getD (columnsFrom bytes at n) c d
-unfolding columnsFrom
-column-of bytes at zero c d h = absurd (omega arith)
-column-of bytes at (suc n) zero d h = let s : at + 4 * 0 ≡ at = omega arith in ap (columnFrom bytes) s
-column-of bytes at (suc n) (suc c) d h =
-    let s : at + 4 * suc c ≡ at + 4 + 4 * c = omega arith in
-    ap (columnFrom bytes) s ∙ column-of bytes (at + 4) n c d (omega arith)
+-- the arrays say the columns of table t
+abbrev ColumnsAt : List ℕ → List ℤ → ℕ → Table → Type 0
+ColumnsAt shape ends t x = (c : ℕ) → c < length (x .columns) → columnAt shape ends t c ≡ getD (x .columns) c noColumn
 
-table-columns : (bytes : List ℕ) (at : ℕ) (x : Table) (rest : List ℕ) → LegalTable x → drop (at + 1) bytes ≡ tableBytes x ++ rest
-    → columnsFrom bytes (at + 5) (length (x .columns)) ≡ x .columns
-unfolding tableBytes
-table-columns bytes at x rest l e =
-    let s : at + 5 ≡ at + 1 + 4 = omega arith in
-    let behind : drop (at + 5) bytes ≡ joined (map columnBytes (x .columns)) ++ rest =
-    ap (λ i. drop i bytes) s ∙ sym (drop-drop 4 (at + 1) bytes) ∙ ap (drop 4) e in
-    columns-back bytes (at + 5) rest behind (all-map legal-bits (l .columns))
-
-module _ (bytes starts : List ℕ) where
-  row-columns : (t i : ℕ) (x : Table) (rest : List ℕ) → LegalTable x → i < 8 → drop (getD starts t 0 + 1) bytes ≡ tableBytes x ++ rest
-      → map (columnAt bytes starts) (rowCodes t i (length (x .columns))) ≡ x .columns
-  unfolding columnAt rowCodes
-  row-columns t i x rest l h e =
+module _ (shape : List ℕ) (ends : List ℤ) where
+  row-columns : (t i : ℕ) (x : Table) → LegalTable x → i < 8 → ColumnsAt shape ends t x
+      → map (codeColumn shape ends) (rowCodes t i (length (x .columns))) ≡ x .columns
+  unfolding rowCodes
+  row-columns t i x l h e =
       let w = length (x .columns) in
-      let at = getD starts t 0 + 5 in
-      map-listed (columnAt bytes starts) (code t i) w
-      ∙ listed-same (λ c. columnAt bytes starts (code t i c)) (λ c. getD (x .columns) c noColumn) w
+      map-listed (codeColumn shape ends) (code t i) w
+      ∙ listed-same (λ c. codeColumn shape ends (code t i c)) (λ c. getD (x .columns) c noColumn) w
       (λ c k. let few : c < 4 = omega (arith, k, l .count .most) in
-      ap₂ (λ (u v : ℕ). columnFrom bytes (getD starts u 0 + 5 + 4 * v)) (code-table t i c h few) (code-column t i c few)
-      ∙ column-of bytes at w c noColumn k
-      ∙ ap (λ (cs : List Column). getD cs c noColumn) (table-columns bytes (getD starts t 0) x rest l e))
+      ap₂ (λ (u v : ℕ). columnAt shape ends u v) (code-table t i c h few) (code-column t i c few) ∙ e c k)
       ∙ listed-getD (x .columns) noColumn w refl
 
-  rows-columns : (t n : ℕ) (x : Table) (rest : List ℕ) → LegalTable x → n ≤ 8 → drop (getD starts t 0 + 1) bytes ≡ tableBytes x ++ rest
-      → map (columnAt bytes starts) (tableCodes t (length (x .columns)) n) ≡ copies n (x .columns)
+  rows-columns : (t n : ℕ) (x : Table) → LegalTable x → n ≤ 8 → ColumnsAt shape ends t x
+      → map (codeColumn shape ends) (tableCodes t (length (x .columns)) n) ≡ copies n (x .columns)
   unfolding tableCodes
-  rows-columns t zero x rest l h e = refl
-  rows-columns t (suc n) x rest l h e =
+  rows-columns t zero x l h e = refl
+  rows-columns t (suc n) x l h e =
       let w = length (x .columns) in
-      map-append (columnAt bytes starts) (tableCodes t w n) (rowCodes t n w)
-      ∙ ap₂ _++_ (rows-columns t n x rest l (omega arith) e) (row-columns t n x rest l (omega arith) e)
+      map-append (codeColumn shape ends) (tableCodes t w n) (rowCodes t n w)
+      ∙ ap₂ _++_ (rows-columns t n x l (omega arith) e) (row-columns t n x l (omega arith) e)
       ∙ copies-snoc n (x .columns)
 
-  tables-columns : (t : ℕ) {ts : List Table} → All LegalTable ts
-      → ((i : ℕ) → i < length ts → (rest : List ℕ) × (drop (getD starts (t + i) 0 + 1) bytes ≡ tableBytes (tableAt ts i) ++ rest))
-      → map (columnAt bytes starts) (codesFrom t ts) ≡ cellColumns ts
+  tables-columns : (t : ℕ) {ts : List Table} → All LegalTable ts → ((i : ℕ) → i < length ts → ColumnsAt shape ends (t + i) (tableAt ts i))
+      → map (codeColumn shape ends) (codesFrom t ts) ≡ cellColumns ts
   tables-columns t All.nil h = refl
   tables-columns t (All.cons {x = x} {xs = ts} l ls) h =
-      let (rest, e) = h 0 (omega arith) in
-      let s : t ≡ t + 0 = omega arith in
-      let here : drop (getD starts t 0 + 1) bytes ≡ tableBytes x ++ rest = ap (λ i. drop (getD starts i 0 + 1) bytes) s ∙ e in
-      map-append (columnAt bytes starts) (tableCodes t (length (x .columns)) (x .rows)) (codesFrom (suc t) ts)
-      ∙ ap₂ _++_ (rows-columns t (x .rows) x rest l (l .rows .most) here)
-      (tables-columns (suc t) ls (λ i k. let (rest′, e′) = h (suc i) (omega arith) in
-      let s′ : suc t + i ≡ t + suc i = omega arith in
-      (rest′, ap (λ j. drop (getD starts j 0 + 1) bytes) s′ ∙ e′)))
+      let s : t + 0 ≡ t = omega arith in
+      map-append (codeColumn shape ends) (tableCodes t (length (x .columns)) (x .rows)) (codesFrom (suc t) ts)
+      ∙ ap₂ _++_ (rows-columns t (x .rows) x l (l .rows .most) (subst (λ i. ColumnsAt shape ends i x) s (h 0 (omega arith))))
+      (tables-columns (suc t) ls (λ i k. let s′ : t + suc i ≡ suc t + i = omega arith in
+      subst (λ j. ColumnsAt shape ends j (tableAt ts i)) s′ (h (suc i) (omega arith))))
 
--- ---- the codes of a file that is given
+-- ---- the codes of a file in memory
 
-module _ {F : File} {bytes starts shape : List ℕ} {o : Outline} (g : Given F bytes starts shape o) where
+module _ {F : File} {bytes starts shape : List ℕ} {ends : List ℤ} {o : Outline} (M : FileIn F bytes starts shape ends o) where
   given-codes : allCodes (boundAt shape) (widthAt shape) (o .tables) ≡ codesOf F
   unfolding codesOf
   given-codes =
-      codes-same (o .tables) (λ t h. g .bounds t ∙ bound-is F t (omega (arith, h, g .tables)))
-      (λ t h. g .widths t ∙ table-width F t (omega (arith, h, g .tables)))
-      ∙ ap (allCodes (λ t. tableAt (F .tables) t .rows) (λ t. length (tableAt (F .tables) t .columns))) (g .tables)
+      codes-same (o .tables) (λ t h. rows-are M t (omega (arith, h, M .tables))) (λ t h. columns-are M t (omega (arith, h, M .tables)))
+      ∙ ap (allCodes (λ t. tableAt (F .tables) t .rows) (λ t. length (tableAt (F .tables) t .columns))) (M .tables)
 
-  given-columns : map (columnAt bytes starts) (codesOf F) ≡ cellColumns (F .tables)
+  given-columns : map (codeColumn shape ends) (codesOf F) ≡ cellColumns (F .tables)
   given-columns =
-      ap (map (columnAt bytes starts)) (codes-of F)
-      ∙ tables-columns bytes starts 0 (g .legal .tables) (λ i h. let s : i ≡ 0 + i = omega arith in
-      let (rest, e) = g .table-frames i h in
-      (rest, ap (λ j. drop (getD starts j 0 + 1) bytes) (sym s) ∙ e))
+      ap (map (codeColumn shape ends)) (codes-of F)
+      ∙ tables-columns shape ends 0 (M .legal .tables) (λ i h. let s : i ≡ 0 + i = omega arith in
+      subst (λ j. ColumnsAt shape ends j (tableAt (F .tables) i)) s (λ c. column-is M i c h))
 
 length-codesOf : (F : File) → length (codesOf F) ≡ length (cellColumns (F .tables))
 length-codesOf F = ap length (codes-of F) ∙ length-codes 0 (F .tables)
 
-pub digits-given : {F : File} {bytes starts shape : List ℕ} {o : Outline} {codes codes′ : List ℕ} {r : ℕ} → Given F bytes starts shape o
-    → TablesCoded shape (o .tables) codes r codes′ → length codes ≡ 512 → Digits F bytes starts codes′ r
-digits-given {F} {bytes} {starts} {codes = codes} {codes′} {r} g c n =
-    let same = given-codes g in
+pub digits-given : {F : File} {bytes starts shape : List ℕ} {ends : List ℤ} {o : Outline} {codes codes′ : List ℕ} {r : ℕ} → FileIn F bytes starts shape ends o
+    → TablesCoded shape (o .tables) codes r codes′ → length codes ≡ 512 → Digits F shape ends codes′ r
+digits-given {F} {codes = codes} {r = r} M c n =
+    let same = given-codes M in
     let total : r ≡ length (codesOf F) = c .total ∙ ap length same in
-    let few : length (cellColumns (F .tables)) ≤ length (F .tables) * 32 = codes-few (g .legal .tables) in
-    let room : r ≤ length codes = omega (arith, total, few, length-codesOf F, g .legal .relationCount, n) in
+    let few : length (cellColumns (F .tables)) ≤ length (F .tables) * 32 = codes-few (M .legal .tables) in
+    let room : r ≤ length codes = omega (arith, total, few, length-codesOf F, M .legal .relationCount, n) in
     record {
-      legal = g .legal;
-      starts-size = g .starts-size;
+      legal = M .legal;
       codes-are = rw same at (c .coded room);
-      columns = λ j h. sym (map-at (columnAt bytes starts) (codesOf F) j 0 noColumn (omega (arith, h, total)))
-          ∙ ap (λ (cs : List Column). getD cs j noColumn) (given-columns g);
+      columns = given-columns M;
       number = sym (total ∙ length-codesOf F);
     }
 

@@ -2,9 +2,9 @@
 -- table and 4 for a row, and no table has more than 8 rows of 4 columns. Assumes nothing: these are definitions, and they compute.
 use mathlib.Core.Path.{_≡_}
 use mathlib.Core.List.{List, [], _++_, map}
-use Prim.Native.Nat.{ℕ, zero, suc, _+_, _*_, _/_, _%_, _≤_, _<_}
+use Prim.Native.Nat.{ℕ, zero, suc, _+_, _*_, _/_, _%_, _≤_}
 use lib.IntN.{ℤ}
-use lib.ListN.{length, getD, take}
+use lib.ListN.{length, take}
 use Rattle.value.specs.Value.{Value}
 use Rattle.meaning.specs.Syntax.{File}
 use Rattle.catalog.specs.Arrays.{widthAt, boundAt}

@@ -11,19 +11,16 @@ use Rattle.meaning.specs.Algebra.{MeaningOf}
 use Rattle.meaning.specs.Bounds.{schemas}
 use Rattle.language.specs.FileOf.{fileOf}
 use Rattle.checker.specs.Plans.{Plans}
-use Rattle.checker.specs.declared.plan.Plan.{Plan}
+use Rattle.catalog.specs.declared.plan.Plan.{Plan}
 use Rattle.store.specs.Rows.{rowsIn}
-use Rattle.cases.specs.Given.{Outlines}
 use Rattle.cases.specs.Needs.{Flag, NeedsOf}
 use Rattle.cases.specs.Relations.{columnsOf}
-use Rattle.cases.specs.Judgement.{Evaluates, Judges}
-use Rattle.cases.specs.declared.outline.Outline.{Outline}
+use Rattle.cases.specs.Judgement.{Evaluates, IsCase}
 use Rattle.look.specs.Scans.{At}
 
 -- candidate k of the file F of a text
 pub record Prepared (text : List ℕ) (F : File) (k : ℕ) : Type 0 where
   pub plan : Plan
-  pub outline : Outline
   -- flags of the relations whose rows are worked out, and of those of which it is asked whether they are negative
   pub needed : List ℕ
   pub asked : List ℕ
@@ -33,10 +30,8 @@ pub record Prepared (text : List ℕ) (F : File) (k : ℕ) : Type 0 where
   pub work : List ℤ
   -- plan::check
   pub checked : Plans (fileOf text) plan
-  -- outline::outline_of
-  pub outlined : Outlines plan outline
   -- needs::needs_of, where no flag was set
-  pub flagged : NeedsOf (plan .bytes) (plan .starts) outline (replicate 16 0) (replicate 16 0) needed asked
+  pub flagged : NeedsOf (plan .bytes) (plan .starts) (plan .outline) (plan .goal) (replicate 16 0) (replicate 16 0) needed asked
   -- outline::count_tables and moves::place; of a later candidate, judgement::is_case of the one before and moves::move_to
   pub stands : At F counts refuted work k
 
@@ -44,12 +39,12 @@ module _ {text : List ℕ} {F : File} {k : ℕ} (P : Prepared text F k) where
   -- judgement::evaluate leaves these numbers
   abbrev pub Evaluated : List ℕ → List ℕ → List ℤ → Type 0
   Evaluated counts′ refuted′ work′ =
-      Evaluates (P .plan .bytes) (P .plan .starts) (P .plan .shape) (P .needed) (P .asked) (P .outline) (P .counts) (P .refuted) (P .work) counts′ refuted′ work′
+      Evaluates (P .plan .bytes) (P .plan .starts) (P .plan .shape) (P .needed) (P .asked) (P .plan .outline) (P .counts) (P .refuted) (P .work) counts′ refuted′ work′
 
   -- judgement::is_case answers r, and leaves these numbers
   abbrev pub Judged : Bool → List ℕ → List ℕ → List ℤ → Type 0
   Judged r counts′ refuted′ work′ =
-      Judges (P .plan .bytes) (P .plan .starts) (P .plan .shape) (P .needed) (P .asked) (P .outline) (P .counts) (P .refuted) (P .work) r counts′ refuted′ work′
+      IsCase (P .plan .bytes) (P .plan .starts) (P .plan .shape) (P .needed) (P .asked) (P .plan .outline) (P .plan .goal) (P .counts) (P .refuted) (P .work) r counts′ refuted′ work′
 
 -- "Each view's rows, counted as a bag, are those of the Extended Relational Algebra": of every relation that is flagged, the goal's among
 -- them if it is positive, the rows that stand in the work area are ⟨V⟩

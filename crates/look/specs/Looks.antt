@@ -9,11 +9,10 @@ use lib.ListN.{length}
 use Rattle.meaning.specs.Syntax.{File}
 use Rattle.meaning.specs.Candidates.{candidates}
 use Rattle.meaning.specs.Look.{Answer, After, workSize, refusal, look}
-use Rattle.language.specs.Legal.{Legal}
-use Rattle.checker.specs.Plans.{PlanOf}
-use Rattle.checker.specs.declared.plan.Plan.{Plan}
-use Rattle.cases.specs.Given.{Given}
-use Rattle.cases.specs.declared.outline.Outline.{Outline}
+use Rattle.catalog.specs.FileIn.{FileIn, PlanOf, goalOf}
+use Rattle.catalog.specs.declared.outline.Outline.{Outline}
+use Rattle.catalog.specs.declared.plan.Goal.{Goal}
+use Rattle.catalog.specs.declared.plan.Plan.{Plan}
 use Rattle.look.specs.declared.Answer.{Answer as Answered}
 use Rattle.look.specs.declared.Answer.the-variants.{Case, NoCase, Spent, Refused}
 
@@ -29,14 +28,14 @@ answerOf (Refused n l) = Answer.refused n l
 pub record Concludes (end n : ℕ) (r : Answered) : Type 0 where
   pub concludes : answerOf r ≡ cond (eqb end n) Answer.noCase (Answer.spent end)
 
-pub record Finds (bytes starts shape : List ℕ) (o : Outline) (n start count : ℕ) (work inst : List ℤ) (r : Answered) (work′ inst′ : List ℤ) : Type 0 where
-  pub finds : (F : File) → Given F bytes starts shape o → n ≡ candidates F → workSize ≤ length work
+pub record Finds (bytes starts shape : List ℕ) (ends : List ℤ) (o : Outline) (g : Goal) (n start count : ℕ) (work inst : List ℤ) (r : Answered) (work′ inst′ : List ℤ) : Type 0 where
+  pub finds : (F : File) → FileIn F bytes starts shape ends o → goalOf g ≡ F .goal → n ≡ candidates F → workSize ≤ length work
       → After.after (answerOf r) work′ inst′ ≡ look F start count work inst
 
--- a look at a plan: of the plan of a legal file, and of a refusal's
+-- a look at a plan: of the plan of a file, and of a refusal's
 pub record LooksAt (p : Plan) (start count : ℕ) (work inst : List ℤ) (r : Answered) (work′ inst′ : List ℤ) : Type 0 where
   pub work-size : length work′ ≡ length work
   pub inst-size : length inst′ ≡ length inst
   pub short : length work < workSize → After.after (answerOf r) work′ inst′ ≡ refusal 11 work inst
   pub refused : workSize ≤ length work → (p .number ≡ 0 → ⊥) → After.after (answerOf r) work′ inst′ ≡ After.after (Answer.refused (p .number) (p .line)) work inst
-  pub accepted : (F : File) → Legal F → PlanOf F p → After.after (answerOf r) work′ inst′ ≡ look F start count work inst
+  pub accepted : (F : File) → PlanOf F p → After.after (answerOf r) work′ inst′ ≡ look F start count work inst

@@ -9,11 +9,12 @@ use Rattle.meaning.specs.Syntax.{File}
 use Rattle.meaning.specs.Candidates.{cells as cellsOf}
 use Rattle.meaning.specs.Look.{seek, candidate}
 use Rattle.language.specs.Legal.{tableAt}
+use Rattle.catalog.specs.FileIn.{FileIn, goalOf}
+use Rattle.catalog.specs.declared.outline.Outline.{Outline}
+use Rattle.catalog.specs.declared.plan.Goal.{Goal}
 use Rattle.store.specs.Layout.{area}
-use Rattle.cases.specs.Given.{Given}
 use Rattle.cases.specs.Needs.{Covers}
 use Rattle.cases.specs.Judgement.{TablesKept}
-use Rattle.cases.specs.declared.outline.Outline.{Outline}
 use Rattle.look.specs.Cells.{codesOf, cellsIn}
 use Rattle.look.specs.Moves.{Digits}
 
@@ -25,9 +26,10 @@ pub record Passed (p : ℕ → Bool) (start k next : ℕ) : Type 0 where
   pub over : (j : ℕ) → k ≤ j → j < next → p j ≡ true → (i : ℕ) × (start ≤ i) × (i < k) × (p i ≡ true)
 
 -- what the search of a file rests on
-pub record Plan (F : File) (bytes starts shape needed asked : List ℕ) (o : Outline) : Type 0 where
-  pub given : Given F bytes starts shape o
-  pub covers : Covers F needed asked
+pub record Setting (F : File) (bytes starts shape : List ℕ) (ends : List ℤ) (needed asked : List ℕ) (o : Outline) (g : Goal) : Type 0 where
+  pub file : FileIn F bytes starts shape ends o
+  pub goal : goalOf g ≡ F .goal
+  pub covers : Covers F (F .goal) needed asked
 
 -- the numbers of the tables' rows and the cells of candidate k stand where they should
 pub record At (F : File) (counts refuted : List ℕ) (work : List ℤ) (k : ℕ) : Type 0 where
@@ -39,19 +41,21 @@ pub record At (F : File) (counts refuted : List ℕ) (work : List ℤ) (k : ℕ)
 
 -- ---- what the code gives
 
-pub record Tests (bytes starts shape needed asked : List ℕ) (o : Outline) (k : ℕ) (counts refuted : List ℕ) (work : List ℤ) (r : ℕ) (counts′ refuted′ : List ℕ) (work′ : List ℤ) : Type 0 where
+pub record Tests (bytes starts shape needed asked : List ℕ) (o : Outline) (g : Goal) (k : ℕ)
+    (counts refuted : List ℕ) (work : List ℤ) (r : ℕ) (counts′ refuted′ : List ℕ) (work′ : List ℤ) : Type 0 where
   pub kept : TablesKept (o .tables) counts work counts′ work′
   pub refuted-size : length refuted′ ≡ length refuted
   pub bound : r ≤ 18446744073709551615
   pub follows : k ≤ r
-  pub passed : (F : File) → Plan F bytes starts shape needed asked o → At F counts refuted work k → (start : ℕ) → Passed (candidate F) start k r
+  pub passed : (F : File) {ends : List ℤ} → Setting F bytes starts shape ends needed asked o g → At F counts refuted work k → (start : ℕ) → Passed (candidate F) start k r
 
-pub record Scans (bytes starts shape needed asked : List ℕ) (o : Outline) (codes : List ℕ) (n start end : ℕ) (counts refuted : List ℕ) (work : List ℤ) (r : ℕ) (work′ : List ℤ) : Type 0 where
+pub record Scans (bytes starts shape : List ℕ) (ends : List ℤ) (needed asked : List ℕ) (o : Outline) (g : Goal) (codes : List ℕ) (n start end : ℕ)
+    (counts refuted : List ℕ) (work : List ℤ) (r : ℕ) (work′ : List ℤ) : Type 0 where
   pub length-kept : length work′ ≡ length work
-  pub found : (F : File) → Plan F bytes starts shape needed asked o → Digits F bytes starts codes n → At F counts refuted work start → start ≤ end
+  pub found : (F : File) → Setting F bytes starts shape ends needed asked o g → Digits F shape ends codes n → At F counts refuted work start → start ≤ end
       → (r ≡ seek (candidate F) start (end - start)) × (r < end → cellsIn work′ (codesOf F) ≡ cellsOf F r)
 
-pub record Searches (bytes starts shape : List ℕ) (o : Outline) (codes : List ℕ) (n start end : ℕ) (work : List ℤ) (r : ℕ) (work′ : List ℤ) : Type 0 where
+pub record Searches (bytes starts shape : List ℕ) (ends : List ℤ) (o : Outline) (g : Goal) (codes : List ℕ) (n start end : ℕ) (work : List ℤ) (r : ℕ) (work′ : List ℤ) : Type 0 where
   pub length-kept : length work′ ≡ length work
-  pub found : (F : File) → Given F bytes starts shape o → Digits F bytes starts codes n → area ≤ length work → start ≤ end
+  pub found : (F : File) → FileIn F bytes starts shape ends o → goalOf g ≡ F .goal → Digits F shape ends codes n → area ≤ length work → start ≤ end
       → (r ≡ seek (candidate F) start (end - start)) × (r < end → cellsIn work′ (codesOf F) ≡ cellsOf F r)

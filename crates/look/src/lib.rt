@@ -4,10 +4,10 @@ pub mod cells;
 pub mod moves;
 pub mod scan;
 
-use cases::outline;
-use cases::outline::Outline;
+use catalog::outline::Outline;
+use catalog::plan::Goal;
+use catalog::plan::Plan;
 use checker::plan;
-use checker::plan::Plan;
 ghost use mathlib.Core.Path.{_≡_};
 ghost use Rattle.meaning.specs.Look.{After};
 ghost use Rattle.look.specs.Looks.{answerOf, Concludes, Finds, LooksAt};
@@ -39,14 +39,16 @@ fn looked(
     bytes: &[u8],
     starts: &[u32],
     shape: &[u8],
+    ends: &[i32],
     o: Outline,
+    goal: Goal,
     n: u64,
     start: u64,
     count: u64,
     work: &mut [i32],
     instance: &mut [i16],
 ) -> Answer
-    ensures { λ r. ⌜ Finds (now (bytes .entry)) (now (starts .entry)) (now (shape .entry)) o n start count (now (work .entry)) (now (instance .entry)) r (now (work .exit)) (now (instance .exit)) ⌝ }
+    ensures { λ r. ⌜ Finds (now (bytes .entry)) (now (starts .entry)) (now (shape .entry)) (now (ends .entry)) o goal n start count (now (work .entry)) (now (instance .entry)) r (now (work .exit)) (now (instance .exit)) ⌝ }
 {
     let mut codes = [0u16; 512];
     let cells = cells::cells_of(shape, o.tables, &mut codes);
@@ -57,7 +59,19 @@ fn looked(
         return Answer::Refused(13, 0);
     }
     let end = buffers::end_of(start, count, n);
-    let k = scan::search(bytes, starts, shape, o, &codes, cells, start, end, work);
+    let k = scan::search(
+        bytes,
+        starts,
+        shape,
+        ends,
+        o,
+        goal,
+        &codes,
+        cells,
+        start,
+        end,
+        work,
+    );
     if k < end {
         buffers::show(&codes, cells, work, instance);
         buffers::clear(work);
@@ -82,9 +96,20 @@ pub fn look_at(p: Plan, start: u64, count: u64, work: &mut [i32], instance: &mut
     let bytes = p.bytes;
     let starts = p.starts;
     let shape = p.shape;
-    let n = p.candidates;
-    let o = outline::outline_of(p);
-    looked(&bytes, &starts, &shape, o, n, start, count, work, instance)
+    let ends = p.ends;
+    looked(
+        &bytes,
+        &starts,
+        &shape,
+        &ends,
+        p.outline,
+        p.goal,
+        p.candidates,
+        start,
+        count,
+        work,
+        instance,
+    )
 }
 
 // A look: for every text, start, count and buffers, the answer and what the buffers then hold.

@@ -1,13 +1,11 @@
 // From candidate to candidate: the cells of the tables in the work area.
-use cases::needs;
-use checker::entries;
+use catalog::arrays;
 use store;
 use value::domain::Domain;
 ghost use mathlib.Core.Path.{_≡_};
-ghost use Prim.Native.Nat.{_+_, _*_, _/_, _%_, _<_};
-ghost use lib.ListN.{length};
+ghost use Prim.Native.Nat.{_<_};
 ghost use Rattle.value.specs.Machine.{columnOf};
-ghost use Rattle.look.specs.Moves.{columnAt, DigitPut, Placed, Moved};
+ghost use Rattle.look.specs.Moves.{codeColumn, DigitPut, Placed, Moved};
 
 // What is left of two candidate numbers before the digits that are done.
 struct Quotients {
@@ -16,20 +14,19 @@ struct Quotients {
 }
 
 // The column of a cell.
-fn domain_of(bytes: &[u8], starts: &[u32], code: u16) -> Domain
-    ensures { λ d. ⌜ (code < 512 → length (now (starts .entry)) ≡ 16 → columnOf d ≡ columnAt (now (bytes .entry)) (now (starts .entry)) code) ⌝ }
+fn domain_of(shape: &[u8], ends: &[i32], code: u16) -> Domain
+    ensures { λ d. ⌜ (code < 512 → columnOf d ≡ codeColumn (now (shape .entry)) (now (ends .entry)) code) ⌝ }
 {
     let table = (code / 32 % 256) as u8;
-    let column = (code % 4) as usize;
-    let at = needs::frame_at(starts, table) + 4 + 4 * column;
-    entries::domain_at(bytes, at)
+    let column = (code % 4) as u8;
+    arrays::domain_of(shape, ends, table, column)
 }
 
 // A cell takes the last digit of the new quotient; both quotients go on without it.
-fn put_digit(bytes: &[u8], starts: &[u32], code: u16, q: Quotients, work: &mut [i32]) -> Quotients
-    ensures { λ r. ⌜ DigitPut (now (bytes .entry)) (now (starts .entry)) code q (now (work .entry)) r (now (work .exit)) ⌝ }
+fn put_digit(shape: &[u8], ends: &[i32], code: u16, q: Quotients, work: &mut [i32]) -> Quotients
+    ensures { λ r. ⌜ DigitPut (now (shape .entry)) (now (ends .entry)) code q (now (work .entry)) r (now (work .exit)) ⌝ }
 {
-    let d = domain_of(bytes, starts, code);
+    let d = domain_of(shape, ends, code);
     let size = d.size() as u64;
     if size == 0 {
         return q;
@@ -47,30 +44,30 @@ fn put_digit(bytes: &[u8], starts: &[u32], code: u16, q: Quotients, work: &mut [
 
 // The cells become those of candidate k.
 // Refused: those of candidate 0; of candidate 1.
-pub fn place(bytes: &[u8], starts: &[u32], codes: &[u16], cells: u32, k: u64, work: &mut [i32])
-    ensures { λ _. ⌜ Placed (now (bytes .entry)) (now (starts .entry)) (now (codes .entry)) cells k (now (work .entry)) (now (work .exit)) ⌝ }
+pub fn place(shape: &[u8], ends: &[i32], codes: &[u16], cells: u32, k: u64, work: &mut [i32])
+    ensures { λ _. ⌜ Placed (now (shape .entry)) (now (ends .entry)) (now (codes .entry)) cells k (now (work .entry)) (now (work .exit)) ⌝ }
 {
     let mut q = Quotients { old: k, new: k };
     let mut j = cells;
     while 0 < j {
         j -= 1;
         let code = slice::word_at(codes, j as usize);
-        q = put_digit(bytes, starts, code, q, work);
+        q = put_digit(shape, ends, code, q, work);
     }
 }
 
 // The cells go from candidate k to `next`: from the last cell back, up to where the leading digits are the same.
 // Refused: to candidate k; no cell where k and `next` differ.
 pub fn move_to(
-    bytes: &[u8],
-    starts: &[u32],
+    shape: &[u8],
+    ends: &[i32],
     codes: &[u16],
     cells: u32,
     k: u64,
     next: u64,
     work: &mut [i32],
 )
-    ensures { λ _. ⌜ Moved (now (bytes .entry)) (now (starts .entry)) (now (codes .entry)) cells k next (now (work .entry)) (now (work .exit)) ⌝ }
+    ensures { λ _. ⌜ Moved (now (shape .entry)) (now (ends .entry)) (now (codes .entry)) cells k next (now (work .entry)) (now (work .exit)) ⌝ }
 {
     let mut q = Quotients { old: k, new: next };
     let mut j = cells;
@@ -80,6 +77,6 @@ pub fn move_to(
         }
         j -= 1;
         let code = slice::word_at(codes, j as usize);
-        q = put_digit(bytes, starts, code, q, work);
+        q = put_digit(shape, ends, code, q, work);
     }
 }

@@ -2,8 +2,9 @@
 use super::moves;
 use cases::judgement;
 use cases::needs;
-use cases::outline;
-use cases::outline::Outline;
+use catalog::outline;
+use catalog::outline::Outline;
+use catalog::plan::Goal;
 ghost use Prim.Native.Nat.{_<_};
 ghost use Rattle.look.specs.Scans.{Tests, Scans, Searches};
 
@@ -15,13 +16,14 @@ fn tested(
     needed: &[u8],
     asked: &[u8],
     o: Outline,
+    goal: Goal,
     k: u64,
     counts: &mut [u8],
     refuted: &mut [u8],
     work: &mut [i32],
 ) -> u64
     requires { ⌜ k < 18446744073709551615 ⌝ }
-    ensures { λ r. ⌜ Tests (now (bytes .entry)) (now (starts .entry)) (now (shape .entry)) (now (needed .entry)) (now (asked .entry)) o k (now (counts .entry)) (now (refuted .entry)) (now (work .entry)) r (now (counts .exit)) (now (refuted .exit)) (now (work .exit)) ⌝ }
+    ensures { λ r. ⌜ Tests (now (bytes .entry)) (now (starts .entry)) (now (shape .entry)) (now (needed .entry)) (now (asked .entry)) o goal k (now (counts .entry)) (now (refuted .entry)) (now (work .entry)) r (now (counts .exit)) (now (refuted .exit)) (now (work .exit)) ⌝ }
 {
     if judgement::is_case(
         bytes,
@@ -30,6 +32,7 @@ fn tested(
         needed,
         asked,
         o,
+        goal,
         counts,
         refuted,
         work,
@@ -45,9 +48,11 @@ fn scan(
     bytes: &[u8],
     starts: &[u32],
     shape: &[u8],
+    ends: &[i32],
     needed: &[u8],
     asked: &[u8],
     o: Outline,
+    goal: Goal,
     codes: &[u16],
     cells: u32,
     start: u64,
@@ -56,7 +61,7 @@ fn scan(
     refuted: &mut [u8],
     work: &mut [i32],
 ) -> u64
-    ensures { λ r. ⌜ Scans (now (bytes .entry)) (now (starts .entry)) (now (shape .entry)) (now (needed .entry)) (now (asked .entry)) o (now (codes .entry)) cells start end (now (counts .entry)) (now (refuted .entry)) (now (work .entry)) r (now (work .exit)) ⌝ }
+    ensures { λ r. ⌜ Scans (now (bytes .entry)) (now (starts .entry)) (now (shape .entry)) (now (ends .entry)) (now (needed .entry)) (now (asked .entry)) o goal (now (codes .entry)) cells start end (now (counts .entry)) (now (refuted .entry)) (now (work .entry)) r (now (work .exit)) ⌝ }
 {
     let mut k = start;
     while k < end {
@@ -67,6 +72,7 @@ fn scan(
             needed,
             asked,
             o,
+            goal,
             k,
             counts,
             refuted,
@@ -75,7 +81,7 @@ fn scan(
         if next == k {
             return k;
         }
-        moves::move_to(bytes, starts, codes, cells, k, next, work);
+        moves::move_to(shape, ends, codes, cells, k, next, work);
         k = next;
     }
     end
@@ -87,29 +93,33 @@ pub fn search(
     bytes: &[u8],
     starts: &[u32],
     shape: &[u8],
+    ends: &[i32],
     o: Outline,
+    goal: Goal,
     codes: &[u16],
     cells: u32,
     start: u64,
     end: u64,
     work: &mut [i32],
 ) -> u64
-    ensures { λ r. ⌜ Searches (now (bytes .entry)) (now (starts .entry)) (now (shape .entry)) o (now (codes .entry)) cells start end (now (work .entry)) r (now (work .exit)) ⌝ }
+    ensures { λ r. ⌜ Searches (now (bytes .entry)) (now (starts .entry)) (now (shape .entry)) (now (ends .entry)) o goal (now (codes .entry)) cells start end (now (work .entry)) r (now (work .exit)) ⌝ }
 {
     let mut counts = [0u8; 16];
     outline::count_tables(shape, o.tables, &mut counts);
     let mut needed = [0u8; 16];
     let mut asked = [0u8; 16];
-    needs::needs_of(bytes, starts, o, &mut needed, &mut asked);
+    needs::needs_of(bytes, starts, o, goal, &mut needed, &mut asked);
     let mut refuted = [0u8; 16];
-    moves::place(bytes, starts, codes, cells, start, work);
+    moves::place(shape, ends, codes, cells, start, work);
     scan(
         bytes,
         starts,
         shape,
+        ends,
         &needed,
         &asked,
         o,
+        goal,
         codes,
         cells,
         start,

@@ -15,26 +15,25 @@ use Rattle.text.proofs.Laws.{text-one}
 use Rattle.text.proofs.Writing.{length-line}
 use Rattle.language.specs.Check.{Outcome}
 use Rattle.language.specs.FileOf.{fileOf}
-use Rattle.checker.specs.Plans.{Plans, PlanOf}
-use Rattle.checker.specs.declared.plan.Plan.{Plan}
-use Rattle.language.proofs.TextLaws.{accepted-text}
-use Rattle.cases.proofs.OutlineLaws.{bound-is}
-use Rattle.cases.proofs.ValidLaws.{table-width}
 use Rattle.language.specs.OutputOf.{caseFrame}
+use Rattle.catalog.specs.FileIn.{PlanOf}
+use Rattle.catalog.specs.declared.plan.Plan.{Plan}
+use Rattle.catalog.proofs.FileLaws.{rows-are, columns-are}
+use Rattle.checker.specs.Plans.{Plans}
 use Rattle.report.specs.Lines.{Grown, Tabled, TablesLined, CaseLined}
 use Rattle.report.proofs.LineLaws.{grown-line, grown-more}
 
 -- the plan of an accepted text says where the cells of a candidate stand
 pub tabled : (text : List ℕ) (p : Plan) → Plans (fileOf text) p → (F : File) (k : ℕ) {shows : List ℤ} → fileOf text ≡ Outcome.accepted F
-    → cellCount F ≤ length shows → take (cellCount F) shows ≡ map shown (cells F k) → Tabled F (cells F k) (p .shape) (p .tables) shows
+    → cellCount F ≤ length shows → take (cellCount F) shows ≡ map shown (cells F k) → Tabled F (cells F k) (p .shape) (p .outline .tables) shows
 tabled text p P F k {shows} e room same =
     let Q : PlanOf F p = subst (λ (o : Outcome). Plans o p) e P in
     let n : length (cells F k) ≡ cellCount F = length-cells F k in
     record {
-      legal = accepted-text text F e .legal;
-      number = Q .tables;
-      rows = λ t h. Q .bounds t ∙ bound-is F t (omega (arith, h, Q .tables));
-      columns = λ t h. Q .widths t ∙ table-width F t (omega (arith, h, Q .tables));
+      legal = Q .file .legal;
+      number = Q .file .tables;
+      rows = λ t h. rows-are (Q .file) t (omega (arith, h, Q .file .tables));
+      columns = λ t h. columns-are (Q .file) t (omega (arith, h, Q .file .tables));
       count = n;
       room = omega (arith, n, room);
       shows = ap (λ i. take i shows) n ∙ same;

@@ -14,7 +14,6 @@ use Rattle.text.specs.Answers.{fits, behind, Written}
 use Rattle.text.proofs.Laws.{text-one, text-append}
 use Rattle.text.proofs.Writing.{length-line, behind-line, take-written, drop-written, length-written}
 use Rattle.language.specs.OutputOf.{numberBytes}
-use Rattle.language.proofs.ReadBack.{length-bytes}
 use Rattle.report.specs.Lines.{Grown, CellsPut, TableLined}
 
 -- ---- lines

@@ -21,7 +21,7 @@ use Rattle.language.specs.FileOf.{fileOf}
 use Rattle.language.specs.Legal.{Legal}
 use Rattle.language.proofs.TextLaws.{accepted-text}
 use Rattle.checker.specs.Plans.{Plans}
-use Rattle.checker.specs.declared.plan.Plan.{Plan}
+use Rattle.catalog.specs.declared.plan.Plan.{Plan}
 use Rattle.look.specs.Looks.{answerOf, LooksAt}
 use Rattle.language.specs.LookOf.{lookOf}
 use Rattle.look.specs.declared.Answer.{Answer as Answered}
@@ -144,7 +144,7 @@ module _ (text out : List ℕ) where
   printed-line {f} h e n w = printed h e (grown-line w (omega (arith, length-line f, n, h)))
 
   module _ {a : Answered} {inst : List ℤ} {out′ : List ℕ} {r : ℕ} (h : outputRoom ≤ length out) (S : Said text (answerOf a) inst) where
-    pub printed-case : (p : Plan) {k : ℕ} → a ≡ Case k → Plans (fileOf text) p → CaseLined (p .shape) (p .tables) k inst out r out′ → Printed text out r out′
+    pub printed-case : (p : Plan) {k : ℕ} → a ≡ Case k → Plans (fileOf text) p → CaseLined (p .shape) (p .outline .tables) k inst out r out′ → Printed text out r out′
     printed-case p {k} e P L =
         let C = S .case k (ap answerOf e) in
         printed h (ap outcomeFrames (C .accepted) ∙ ap (answerFrames (C .file)) (C .answer))

@@ -119,7 +119,7 @@ pub fn output(text: &[u8], out: &mut [u8]) -> usize
     }
     let p = plan::check(text);
     let shape = p.shape;
-    let tables = p.tables;
+    let tables = p.outline.tables;
     let mut work = [0i32; look::AREA];
     let mut cells = [0i16; 512];
     let a = look::look_at(p, 0, u64::MAX, &mut work, &mut cells);

@@ -16,14 +16,16 @@ use Rattle.meaning.proofs.Demand2.{cases}
 use Rattle.meaning.proofs.Relations.{rows-mean}
 use Rattle.language.specs.Check.{Outcome}
 use Rattle.language.specs.FileOf.{fileOf}
-use Rattle.checker.specs.Plans.{Plans}
-use Rattle.checker.specs.declared.plan.Plan.{Plan}
 use Rattle.language.proofs.TextLaws.{accepted-text}
+use Rattle.catalog.specs.FileIn.{TablesCounted, goalOf}
+use Rattle.catalog.specs.declared.outline.Outline.{Outline}
+use Rattle.catalog.specs.declared.plan.Goal.{Goal}
+use Rattle.catalog.specs.declared.plan.Plan.{Plan}
+use Rattle.checker.specs.Plans.{Plans}
 use Rattle.store.specs.Layout.{area}
-use Rattle.cases.specs.Given.{Outlines, TablesIn, TablesCounted}
-use Rattle.cases.specs.Needs.{NeedsOf}
-use Rattle.cases.specs.Judgement.{Ready, Evaluates, Judges}
-use Rattle.cases.specs.declared.outline.Outline.{Outline}
+use Rattle.cases.specs.TablesIn.{TablesIn}
+use Rattle.cases.specs.Needs.{GoalIn, NeedsOf}
+use Rattle.cases.specs.Judgement.{Ready, Evaluates, IsCase}
 use Rattle.cases.proofs.Preparing.{counts-are, tables-kept, all-covers}
 use Rattle.trial.specs.Tried.{TablesStand, Evaluated, ByAlgebra, EveryRelation, Tried}
 
@@ -36,42 +38,43 @@ refused-trial (Outcome.accepted F) p h k counts work = absurd (k (h .number))
 
 -- ---- an accepted text
 
-pub every-relation : {bytes starts shape : List ℕ} {o : Outline} {counts counts₁ counts₂ counts₃ needed asked refuted₁ refuted₂ : List ℕ} {work work₂ work₃ : List ℤ} {b : Bool}
-    → TablesCounted shape (o .tables) counts counts₁ → NeedsOf bytes starts o (replicate 16 0) (replicate 16 0) needed asked
-    → Judges bytes starts shape needed asked o counts₁ (replicate 16 0) work b counts₂ refuted₁ work₂
+pub every-relation : {bytes starts shape : List ℕ} {o : Outline} {g : Goal} {counts counts₁ counts₂ counts₃ needed asked refuted₁ refuted₂ : List ℕ}
+    {work work₂ work₃ : List ℤ} {b : Bool}
+    → TablesCounted shape (o .tables) counts counts₁ → NeedsOf bytes starts o g (replicate 16 0) (replicate 16 0) needed asked
+    → IsCase bytes starts shape needed asked o g counts₁ (replicate 16 0) work b counts₂ refuted₁ work₂
     → Evaluates bytes starts shape (replicate 16 1) (replicate 16 1) o counts₂ refuted₁ work₂ counts₃ refuted₂ work₃
-    → EveryRelation bytes starts shape o counts work b counts₃ work₃
-every-relation {shape = shape} {counts₁ = counts₁} {counts₂} {needed = needed} {asked} {refuted₁} {work = work} {work₂} C N J E = record {
-  evaluated = λ F G d shaped T whole size.
-      let tables : TablesIn F d counts₁ work = record { table = λ t h. rw (counts-are G C size t h) (T .table t h) } in
-      let first : Ready F d needed asked counts₁ (replicate 16 0) work = record {
-        covers = N .covers F shape G refl refl;
+    → EveryRelation bytes starts shape o g counts work b counts₃ work₃
+every-relation {g = g} {counts₁ = counts₁} {counts₂} {needed = needed} {asked} {refuted₁} {work = work} {work₂} C N J E = record {
+  evaluated = λ F M e d shaped T whole size.
+      let tables : TablesIn F d counts₁ work = record { table = λ t h. rw (counts-are M C size t h) (T .table t h) } in
+      let goal : GoalIn F (goalOf g) = subst (GoalIn F) (sym e) (M .legal .goal) in
+      let first : Ready F (goalOf g) d needed asked counts₁ (replicate 16 0) work = record {
+        covers = N .covers M goal refl refl;
         shaped = shaped;
         tables = tables;
         whole = whole;
         counts-size = C .size ∙ size;
         refuted-size = refl;
       } in
-      let second : Ready F d (replicate 16 1) (replicate 16 1) counts₂ refuted₁ work₂ = record {
-        covers = all-covers (G .legal);
+      let second : Ready F (goalOf g) d (replicate 16 1) (replicate 16 1) counts₂ refuted₁ work₂ = record {
+        covers = all-covers (M .legal) (goalOf g) goal;
         shaped = shaped;
-        tables = tables-kept (G .tables) (J .kept) tables;
+        tables = tables-kept (M .tables) (J .kept) tables;
         whole = omega (arith, J .kept .size);
         counts-size = J .kept .counts-size ∙ C .size ∙ size;
         refuted-size = J .refuted-size;
       } in
       record {
-        verdict = ap (λ x. cond x 1 0) (J .case F d G first);
-        relation = λ i h. E .known G second .rows-known i h (record { on = getD-replicate 16 i 1 0 (omega (arith, G .legal .relationCount)) });
+        verdict = ap (λ x. cond x 1 0) (J .case M first ∙ ap (λ x. isCase F x d) e);
+        relation = λ i h. E .known M second .rows-known i h (record { on = getD-replicate 16 i 1 0 (omega (arith, M .legal .relationCount)) });
       };
 }
 
-pub accepted-trial : (text : List ℕ) (out : Outcome) {p : Plan} {o : Outline} {counts counts′ : List ℕ} {work work′ : List ℤ} {b : Bool} {r : ℕ} → fileOf text ≡ out
-    → Plans out p → p .number ≡ 0 → Outlines p o → EveryRelation (p .bytes) (p .starts) (p .shape) o counts work b counts′ work′ → r ≡ cond b 1 0
-    → Tried out counts work r counts′ work′
-accepted-trial text (Outcome.refused n line) e h z O E v = absurd (h .2 (sym (h .0) ∙ z))
-accepted-trial text (Outcome.accepted F) {p} {counts′ = counts′} {work′ = work′} e h z O E v = λ d shaped T whole size.
-    subst (λ k. Evaluated F d k counts′ work′) (sym v) (E .evaluated F (O .given F (accepted-text text F e .legal) h) d shaped T whole size)
+pub accepted-trial : (out : Outcome) (p : Plan) {counts counts′ : List ℕ} {work work′ : List ℤ} {b : Bool} {r : ℕ} → Plans out p → p .number ≡ 0
+    → EveryRelation (p .bytes) (p .starts) (p .shape) (p .outline) (p .goal) counts work b counts′ work′ → r ≡ cond b 1 0 → Tried out counts work r counts′ work′
+accepted-trial (Outcome.refused n line) p h z E v = absurd (h .2 (sym (h .0) ∙ z))
+accepted-trial (Outcome.accepted F) p {counts′ = counts′} {work′ = work′} h z E v = λ d shaped T whole size.
+    subst (λ k. Evaluated F d k counts′ work′) (sym v) (E .evaluated F (h .file) (h .goal) d shaped T whole size)
 
 -- ---- by the algebra
 

@@ -14,11 +14,12 @@ use Rattle.meaning.specs.Valid.{Shaped}
 use Rattle.meaning.specs.Cases.{Case, isCase}
 use Rattle.language.specs.Check.{Outcome}
 use Rattle.language.specs.Legal.{tableAt}
+use Rattle.catalog.specs.FileIn.{FileIn, goalOf}
+use Rattle.catalog.specs.declared.outline.Outline.{Outline}
+use Rattle.catalog.specs.declared.plan.Goal.{Goal}
 use Rattle.store.specs.Layout.{area}
 use Rattle.store.specs.Rows.{rowsIn}
-use Rattle.cases.specs.Given.{Given}
 use Rattle.cases.specs.Relations.{columnsOf}
-use Rattle.cases.specs.declared.outline.Outline.{Outline}
 
 -- the tables of d stand in the work area
 pub record TablesStand (F : File) (d : Database) (work : List ℤ) : Type 0 where
@@ -35,9 +36,9 @@ pub record ByAlgebra (F : File) (d : Database) (r : ℕ) (counts : List ℕ) (wo
   pub verdict : (r ≡ 1) ↔ Case F d (F .goal)
   pub relation : (i : ℕ) → i < length (F .tables) + length (F .views) → MeaningOf F d i (rowsIn work i (columnsOf (schemas F) i) (getD counts i 0))
 
--- of every file that is given
-pub record EveryRelation (bytes starts shape : List ℕ) (o : Outline) (counts : List ℕ) (work : List ℤ) (r : Bool) (counts′ : List ℕ) (work′ : List ℤ) : Type 0 where
-  pub evaluated : (F : File) → Given F bytes starts shape o → (d : Database) → Shaped F d → TablesStand F d work → area ≤ length work
+-- of every file in memory, with its goal
+pub record EveryRelation (bytes starts shape : List ℕ) (o : Outline) (g : Goal) (counts : List ℕ) (work : List ℤ) (r : Bool) (counts′ : List ℕ) (work′ : List ℤ) : Type 0 where
+  pub evaluated : (F : File) {ends : List ℤ} → FileIn F bytes starts shape ends o → goalOf g ≡ F .goal → (d : Database) → Shaped F d → TablesStand F d work → area ≤ length work
       → length counts ≡ 16 → Evaluated F d (cond r 1 0) counts′ work′
 
 -- "A refusal returns its number and a line .. no buffer changes"

@@ -1,8 +1,9 @@
 // For tests: one database of a text, evaluated.
 use cases::judgement;
 use cases::needs;
-use cases::outline;
-use cases::outline::Outline;
+use catalog::outline;
+use catalog::outline::Outline;
+use catalog::plan::Goal;
 use checker::plan;
 ghost use Rattle.language.specs.FileOf.{fileOf};
 ghost use Rattle.trial.specs.Tried.{EveryRelation, Tried};
@@ -13,15 +14,16 @@ fn every_relation(
     starts: &[u32],
     shape: &[u8],
     o: Outline,
+    goal: Goal,
     counts: &mut [u8],
     work: &mut [i32],
 ) -> bool
-    ensures { λ r. ⌜ EveryRelation (now (bytes .entry)) (now (starts .entry)) (now (shape .entry)) o (now (counts .entry)) (now (work .entry)) r (now (counts .exit)) (now (work .exit)) ⌝ }
+    ensures { λ r. ⌜ EveryRelation (now (bytes .entry)) (now (starts .entry)) (now (shape .entry)) o goal (now (counts .entry)) (now (work .entry)) r (now (counts .exit)) (now (work .exit)) ⌝ }
 {
     outline::count_tables(shape, o.tables, counts);
     let mut needed = [0u8; 16];
     let mut asked = [0u8; 16];
-    needs::needs_of(bytes, starts, o, &mut needed, &mut asked);
+    needs::needs_of(bytes, starts, o, goal, &mut needed, &mut asked);
     let mut refuted = [0u8; 16];
     let case = judgement::is_case(
         bytes,
@@ -30,6 +32,7 @@ fn every_relation(
         &needed,
         &asked,
         o,
+        goal,
         counts,
         &mut refuted,
         work,
@@ -64,8 +67,7 @@ pub extern "C" fn sakthveim_evaluate(text: &[u8], counts: &mut [u8], work: &mut 
     let bytes = p.bytes;
     let starts = p.starts;
     let shape = p.shape;
-    let o = outline::outline_of(p);
-    if every_relation(&bytes, &starts, &shape, o, counts, work) {
+    if every_relation(&bytes, &starts, &shape, p.outline, p.goal, counts, work) {
         1
     } else {
         0

@@ -28,7 +28,7 @@ use Rattle.bounds.proofs.operated.Reads as operated-reads
 use Rattle.bounds.proofs.rounded.Reads as rounded-reads
 use Rattle.bounds.proofs.sizing.Reads as sizing-reads
 use Rattle.bounds.proofs.step.Reads as step-reads
-use Rattle.bounds.proofs.verdict.Reads as verdict-reads
+use Rattle.bounds.proofs.testing.Reads as testing-reads
 use Rattle.bounds.proofs.+condition+expression+two.{statement}
 use Rattle.bounds.proofs.+condition+expression+two.Tie.{close}
 
@@ -64,7 +64,7 @@ two-below t = and 4 two-kinds.ps (falls 4 two-kinds.ps _<_ μ-two t) two.Pre
 
 module _ (t : ℕ) where
   abbrev condition-uses : condition-lts.Claims
-  condition-uses = (verdict-reads.Asked, verdict-reads.Learnt, condition-below t, condition.Post, two-below t, two.Post, is-within-reads.Asked, is-within-reads.Learnt)
+  condition-uses = (testing-reads.Asked, testing-reads.Learnt, condition-below t, condition.Post, two-below t, two.Post, is-within-reads.Asked, is-within-reads.Learnt)
 
   abbrev expression-uses : expression-lts.Claims
   expression-uses = (sizing-reads.Asked, sizing-reads.Learnt, constant-reads.Asked, constant-reads.Learnt, column-reads.Asked, column-reads.Learnt, expression-below t, expression.Post, step-reads.Asked, step-reads.Learnt, rounded-reads.Asked, rounded-reads.Learnt, condition-below t, condition.Post, two-below t, two.Post, chosen-reads.Asked, chosen-reads.Learnt, inside-reads.Asked, inside-reads.Learnt, byte-at-reads.Asked, byte-at-reads.Learnt, aggregated-reads.Asked, aggregated-reads.Learnt, operated-reads.Asked, operated-reads.Learnt)
@@ -72,11 +72,11 @@ module _ (t : ℕ) where
   abbrev two-uses : two-lts.Claims
   two-uses = (expression-below t, expression.Post)
 
-  condition-verdict-requires : condition-lts.Need-verdict-requires condition-uses (condition-at t) condition.Post
-  condition-verdict-requires c κs = search needs
+  condition-testing-requires : condition-lts.Need-testing-requires condition-uses (condition-at t) condition.Post
+  condition-testing-requires c κs = search needs
 
   condition-returns : condition-lts.Need-returns condition-uses (condition-at t) condition.Post
-  condition-returns c = endC _ _ _ _ _ _ (c .before .if1 .taken) (c .verdict .ensures)
+  condition-returns c = endC _ _ _ _ _ _ (c .before .if1 .taken) (c .testing .ensures)
 
   condition-shared-slice-read-token : condition-lts.Need-shared-slice-read-token condition-uses (condition-at t) condition.Post
   condition-shared-slice-read-token c = search needs
@@ -84,8 +84,8 @@ module _ (t : ℕ) where
   condition-add-body : condition-lts.Need-add-body condition-uses (condition-at t) condition.Post
   condition-add-body c = search needs
 
-  condition-verdict-requires-2 : condition-lts.Need-verdict-requires-2 condition-uses (condition-at t) condition.Post
-  condition-verdict-requires-2 c κs = search needs
+  condition-testing-requires-2 : condition-lts.Need-testing-requires-2 condition-uses (condition-at t) condition.Post
+  condition-testing-requires-2 c κs = search needs
 
   condition-condition-requires : condition-lts.Need-condition-requires condition-uses (condition-at t) condition.Post
   condition-condition-requires c κs = omega arith
@@ -99,8 +99,8 @@ module _ (t : ℕ) where
   condition-is-within-requires-2 : condition-lts.Need-is-within-requires-2 condition-uses (condition-at t) condition.Post
   condition-is-within-requires-2 c κs = search needs
 
-  condition-verdict-requires-3 : condition-lts.Need-verdict-requires-3 condition-uses (condition-at t) condition.Post
-  condition-verdict-requires-3 c κs = search needs
+  condition-testing-requires-3 : condition-lts.Need-testing-requires-3 condition-uses (condition-at t) condition.Post
+  condition-testing-requires-3 c κs = search needs
 
   condition-condition-requires-2 : condition-lts.Need-condition-requires-2 condition-uses (condition-at t) condition.Post
   condition-condition-requires-2 c κs = omega arith
@@ -108,26 +108,26 @@ module _ (t : ℕ) where
   condition-condition-requires-3 : condition-lts.Need-condition-requires-3 condition-uses (condition-at t) condition.Post
   condition-condition-requires-3 c κs = omega arith
 
-  condition-verdict-requires-4 : condition-lts.Need-verdict-requires-4 condition-uses (condition-at t) condition.Post
-  condition-verdict-requires-4 c κs = search needs
+  condition-testing-requires-4 : condition-lts.Need-testing-requires-4 condition-uses (condition-at t) condition.Post
+  condition-testing-requires-4 c κs = search needs
 
-  condition-verdict-requires-5 : condition-lts.Need-verdict-requires-5 condition-uses (condition-at t) condition.Post
-  condition-verdict-requires-5 c κs = search needs
+  condition-testing-requires-5 : condition-lts.Need-testing-requires-5 condition-uses (condition-at t) condition.Post
+  condition-testing-requires-5 c κs = search needs
 
   condition-returns-2 : condition-lts.Need-returns-2 condition-uses (condition-at t) condition.Post
-  condition-returns-2 c = on-always _ _ _ _ _ _ (c .before .before .before .if1 .left) (c .before .match .keys1) (c .verdict2 .ensures)
+  condition-returns-2 c = on-always _ _ _ _ _ _ (c .before .before .before .if1 .left) (c .before .match .keys1) (c .testing2 .ensures)
 
   condition-returns-3 : condition-lts.Need-returns-3 condition-uses (condition-at t) condition.Post
   condition-returns-3 c = on-negated _ _ _ _ _ _ (c .before .before .before .if1 .left) (c .before .match .keys2) (c .condition .ensures)
 
   condition-returns-4 : condition-lts.Need-returns-4 condition-uses (condition-at t) condition.Post
-  condition-returns-4 c = on-comparison _ _ _ _ _ _ (c .before .before .before .before .before .before .before .before .if1 .left) (omega arith) (omega arith) (c .before .before .before .two .ensures) (c .before .before .is-within .ensures) (c .before .is-within2 .ensures) (c .verdict3 .ensures)
+  condition-returns-4 c = on-comparison _ _ _ _ _ _ (c .before .before .before .before .before .before .before .before .if1 .left) (omega arith) (omega arith) (c .before .before .before .two .ensures) (c .before .before .is-within .ensures) (c .before .is-within2 .ensures) (c .testing3 .ensures)
 
   condition-returns-5 : condition-lts.Need-returns-5 condition-uses (condition-at t) condition.Post
-  condition-returns-5 c = on-connection _ _ _ _ _ _ (c .before .before .before .before .before .before .before .before .before .before .before .before .if1 .left) (omega arith) (omega arith) (c .before .before .before .before .before .before .condition2 .ensures) (c .before .before .before .before .before .condition3 .ensures) (c .verdict4 .ensures)
+  condition-returns-5 c = on-connection _ _ _ _ _ _ (c .before .before .before .before .before .before .before .before .before .before .before .before .if1 .left) (omega arith) (omega arith) (c .before .before .before .before .before .before .condition2 .ensures) (c .before .before .before .before .before .condition3 .ensures) (c .testing4 .ensures)
 
   condition-returns-6 : condition-lts.Need-returns-6 condition-uses (condition-at t) condition.Post
-  condition-returns-6 c = unknownC _ _ _ _ _ _ (c .before .before .before .before .if1 .left) (λ l h. ⊎-elim (λ u. omega arith) (λ u. omega arith) (c .before .if2 .came)) (c .verdict5 .ensures)
+  condition-returns-6 c = unknownC _ _ _ _ _ _ (c .before .before .before .before .if1 .left) (λ l h. ⊎-elim (λ u. omega arith) (λ u. omega arith) (c .before .if2 .came)) (c .testing5 .ensures)
 
   expression-sizing-requires : expression-lts.Need-sizing-requires expression-uses (expression-at t) expression.Post
   expression-sizing-requires c κs = search needs
@@ -232,7 +232,7 @@ pub +condition+expression+two-spec : {M : Type 1} → statement M
 +condition+expression+two-spec =
     close μ-condition μ-expression μ-two
     (λ t. condition-lts.spec (condition-uses t) (condition-at t) condition.Post
-    (condition-verdict-requires t) (condition-returns t) (condition-shared-slice-read-token t) (condition-add-body t) (condition-verdict-requires-2 t) (condition-condition-requires t) (condition-two-requires t) (condition-is-within-requires t) (condition-is-within-requires-2 t) (condition-verdict-requires-3 t) (condition-condition-requires-2 t) (condition-condition-requires-3 t) (condition-verdict-requires-4 t) (condition-verdict-requires-5 t) (condition-returns-2 t) (condition-returns-3 t) (condition-returns-4 t) (condition-returns-5 t) (condition-returns-6 t))
+    (condition-testing-requires t) (condition-returns t) (condition-shared-slice-read-token t) (condition-add-body t) (condition-testing-requires-2 t) (condition-condition-requires t) (condition-two-requires t) (condition-is-within-requires t) (condition-is-within-requires-2 t) (condition-testing-requires-3 t) (condition-condition-requires-2 t) (condition-condition-requires-3 t) (condition-testing-requires-4 t) (condition-testing-requires-5 t) (condition-returns-2 t) (condition-returns-3 t) (condition-returns-4 t) (condition-returns-5 t) (condition-returns-6 t))
     (λ t. expression-lts.spec (expression-uses t) (expression-at t) expression.Post
     (expression-sizing-requires t) (expression-returns t) (expression-shared-slice-read-token t) (expression-add-body t) (expression-constant-requires t) (expression-column-requires t) (expression-add-expression t) (expression-expression-requires t) (expression-step-requires t) (expression-rounded-requires t) (expression-condition-requires t) (expression-two-requires t) (expression-chosen-requires t) (expression-add-expression-2 t) (expression-inside-requires t) (expression-expression-requires-2 t) (expression-byte-at-requires t) (expression-aggregated-requires t) (expression-two-requires-2 t) (expression-sub-operated t) (expression-operated-requires t) (expression-sizing-requires-2 t) (expression-sizing-requires-3 t) (expression-returns-2 t) (expression-returns-3 t) (expression-returns-4 t) (expression-returns-5 t) (expression-returns-6 t) (expression-returns-7 t) (expression-returns-8 t))
     (λ t. two-lts.spec (two-uses t) (two-at t) two.Post

@@ -11,9 +11,6 @@ returns c = at-short (omega arith)
 returns-2 : tie.Need-returns-2
 returns-2 c = at-refused (omega arith) (c .if2 .taken)
 
-outline-of-requires : tie.Need-outline-of-requires
-outline-of-requires c κs = search needs
-
 slice-aggregate-looked : tie.Need-slice-aggregate-looked
 slice-aggregate-looked c = search needs
 
@@ -22,6 +19,9 @@ slice-aggregate-looked-2 c = search needs
 
 slice-aggregate-looked-3 : tie.Need-slice-aggregate-looked-3
 slice-aggregate-looked-3 c = search needs
+
+slice-aggregate-looked-4 : tie.Need-slice-aggregate-looked-4
+slice-aggregate-looked-4 c = search needs
 
 looked-requires : tie.Need-looked-requires
 looked-requires c κs = search needs
@@ -34,8 +34,8 @@ same-length-2 c = search needs
 
 returns-3 : tie.Need-returns-3
 returns-3 c =
-    at-file (search needs) (search needs) (omega arith) (c .before .before .before .before .before .before .before .before .before .before .before .before .if2 .left)
-    (c .before .before .before .before .before .before .before .before .outline-of .ensures) (c .before .before .looked .ensures)
+    at-file (search needs) (search needs) (omega arith) (c .before .before .before .before .before .before .before .before .before .before .before .before .before .if2 .left)
+    (c .before .before .looked .ensures)
 
 pub look-at-spec : {M : Type 1} → statement M
 look-at-spec =
@@ -43,10 +43,10 @@ look-at-spec =
     (tie.spec
     returns
     returns-2
-    outline-of-requires
     slice-aggregate-looked
     slice-aggregate-looked-2
     slice-aggregate-looked-3
+    slice-aggregate-looked-4
     looked-requires
     same-length
     same-length-2

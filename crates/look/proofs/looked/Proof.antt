@@ -45,7 +45,16 @@ same-length-2 : tie.Need-same-length-2
 same-length-2 c = search needs
 
 returns-3 : tie.Need-returns-3
-returns-3 c = finds-case (record { coded = c .before .before .before .before .before .before .before .before .before .before .before .before .before .before .before .before .before .cells-of .ensures; room = omega arith; from = omega arith; to = c .before .before .before .before .before .before .before .before .before .before .before .before .before .end-of .ensures; search = c .before .before .before .before .before .before .before .before .before .before .search .ensures }) (c .before .before .before .before .before .before .before .before .if3 .taken) (c .before .before .before .before .show .ensures) (c .before .clear .ensures)
+returns-3 c =
+    finds-case
+    (record {
+      coded = c .before .before .before .before .before .before .before .before .before .before .before .before .before .before .before .before .before .cells-of .ensures;
+      room = omega arith;
+      from = omega arith;
+      to = c .before .before .before .before .before .before .before .before .before .before .before .before .before .end-of .ensures;
+      search = c .before .before .before .before .before .before .before .before .before .before .search .ensures;
+    })
+    (c .before .before .before .before .before .before .before .before .if3 .taken) (c .before .before .before .before .show .ensures) (c .before .clear .ensures)
 
 clear-requires-2 : tie.Need-clear-requires-2
 clear-requires-2 c κs = search needs
@@ -57,7 +66,16 @@ same-length-3 : tie.Need-same-length-3
 same-length-3 c = search needs
 
 returns-4 : tie.Need-returns-4
-returns-4 c = finds-none (record { coded = c .before .before .before .before .before .before .before .before .before .before .before .before .before .cells-of .ensures; room = omega arith; from = omega arith; to = c .before .before .before .before .before .before .before .before .before .end-of .ensures; search = c .before .before .before .before .before .before .search .ensures }) (omega arith) (c .before .before .clear2 .ensures) (c .concluded .ensures)
+returns-4 c =
+    finds-none
+    (record {
+      coded = c .before .before .before .before .before .before .before .before .before .before .before .before .before .cells-of .ensures;
+      room = omega arith;
+      from = omega arith;
+      to = c .before .before .before .before .before .before .before .before .before .end-of .ensures;
+      search = c .before .before .before .before .before .before .search .ensures;
+    })
+    (omega arith) (c .before .before .clear2 .ensures) (c .concluded .ensures)
 
 pub looked-spec : {M : Type 1} → statement M
 looked-spec =

@@ -58,13 +58,20 @@ loop-less : tie.Need-loop-less Inv-loop μ-loop
 loop-less c = search needs
 
 loop-again : tie.Need-loop-again Inv-loop μ-loop
-loop-again c = (cells-more (c .before .before .before .loop .inv .0) (omega (arith, c .before .before .before .before .before .pre)) (omega (arith, c .before .before .before .before .before .pre)) (c .to-bytes .ensures .0 ∙ ap highByte (back w16 _ (c .before .to-bytes-arg .given))) (c .to-bytes .ensures .1 ∙ ap lowByte (back w16 _ (c .before .to-bytes-arg .given))), omega arith)
+loop-again c = (
+  cells-more (c .before .before .before .loop .inv .0) (omega (arith, c .before .before .before .before .before .pre)) (omega (arith, c .before .before .before .before .before .pre))
+      (c .to-bytes .ensures .0 ∙ ap highByte (back w16 _ (c .before .to-bytes-arg .given))) (c .to-bytes .ensures .1 ∙ ap lowByte (back w16 _ (c .before .to-bytes-arg .given))),
+  omega arith,
+)
 
 same-length : tie.Need-same-length Inv-loop μ-loop
 same-length c = search needs
 
 returns : tie.Need-returns Inv-loop μ-loop
-returns c = let e : c .before .loop .i ≡ c .before .before .before .args .n = omega (arith, c .before .loop .inv) in subst (λ i. CellsPut (c .before .before .before .args .cells .now) (c .before .before .before .args .first) i (c .before .before .before .args .frame .now) (c .before .loop .frame)) e (c .before .loop .inv .0)
+returns c =
+    let a = c .before .before .before .args in
+    let e : c .before .loop .i ≡ a .n = omega (arith, c .before .loop .inv) in
+    subst (λ i. CellsPut (a .cells .now) (a .first) i (a .frame .now) (c .before .loop .frame)) e (c .before .loop .inv .0)
 
 pub put-cells-spec : {M : Type 1} → statement M
 put-cells-spec =

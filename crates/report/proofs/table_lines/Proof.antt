@@ -35,7 +35,12 @@ mul-first : tie.Need-mul-first Inv-loop μ-loop
 mul-first c = search (needs, cells-few {rows = c .before .before .before .before .before .bound-of .result} {columns = c .before .before .before .before .width-of .result} (omega arith) (omega arith))
 
 add-first : tie.Need-add-first Inv-loop μ-loop
-add-first c = search (needs, cells-few {rows = c .before .before .before .before .before .bound-of .result} {columns = c .before .before .before .before .width-of .result} (omega arith) (omega arith), c .before .before .before .before .before .before .before .loop .inv .few)
+add-first c =
+    search (
+      needs,
+      cells-few {rows = c .before .before .before .before .before .bound-of .result} {columns = c .before .before .before .before .width-of .result} (omega arith) (omega arith),
+      c .before .before .before .before .before .before .before .loop .inv .few,
+    )
 
 add-t : tie.Need-add-t Inv-loop μ-loop
 add-t c = search needs
@@ -44,7 +49,9 @@ loop-less : tie.Need-loop-less Inv-loop μ-loop
 loop-less c = search needs
 
 loop-again : tie.Need-loop-again Inv-loop μ-loop
-loop-again c = stage-more (c .before .before .before .before .before .before .before .loop .inv) (c .before .before .before .before .before .before .loop-test .taken) (c .before .before .before .before .before .bound-of .ensures) (c .before .before .before .before .width-of .ensures) (c .before .before .table-line .ensures) (omega arith) (omega arith)
+loop-again c =
+    stage-more (c .before .before .before .before .before .before .before .loop .inv) (c .before .before .before .before .before .before .loop-test .taken)
+    (c .before .before .before .before .before .bound-of .ensures) (c .before .before .before .before .width-of .ensures) (c .before .before .table-line .ensures) (omega arith) (omega arith)
 
 same-length : tie.Need-same-length Inv-loop μ-loop
 same-length c = search needs

@@ -47,7 +47,12 @@ same-length-2 : tie.Need-same-length-2
 same-length-2 c = search needs
 
 returns : tie.Need-returns
-returns c = every-relation (c .before .before .before .before .before .before .before .before .before .before .before .before .before .before .before .before .before .before .before .before .before .before .before .before .before .before .before .count-tables .ensures) (c .before .before .before .before .before .before .before .before .before .before .before .before .before .before .before .before .before .before .before .before .before .before .needs-of .ensures) (c .before .before .before .before .before .before .before .before .before .before .before .before .before .before .is-case .ensures) (c .before .before .before .before .evaluate .ensures)
+returns c =
+    let judged = c .before .before .before .before .before .before .before .before .before .before .before .before .before .before in
+    let flagged = judged .before .before .before .before .before .before .before .before in
+    every-relation (flagged .before .before .before .before .before .count-tables .ensures) (flagged .needs-of .ensures)
+    (judged .is-case .ensures)
+    (c .before .before .before .before .evaluate .ensures)
 
 pub every-relation-spec : {M : Type 1} → statement M
 every-relation-spec =

@@ -1,8 +1,7 @@
 -- `trial::sakthveim_evaluate` meets its contract. Assumes nothing.
-use mathlib.Core.Path.{refl}
 use borrow.Author.Needs.{needs}
 use Rattle.language.specs.FileOf.{fileOf}
-use Rattle.trial.proofs.TrialLaws.{every-relation, refused-trial, accepted-trial}
+use Rattle.trial.proofs.TrialLaws.{refused-trial, accepted-trial}
 use Rattle.trial.proofs.sakthveim_evaluate.Statement.{statement}
 use Rattle.trial.proofs.sakthveim_evaluate.Tie as tie
 
@@ -22,10 +21,9 @@ add-result : tie.Need-add-result
 add-result c = search needs
 
 returns : tie.Need-returns
-returns c = refused-trial (fileOf (c .before .before .before .before .before .before .before .args .text .now)) (c .before .before .before .before .check .result) (c .before .before .before .before .check .ensures) (c .before .before .if1 .taken) _ _
-
-outline-of-requires : tie.Need-outline-of-requires
-outline-of-requires c κs = search needs
+returns c =
+    refused-trial (fileOf (c .before .before .before .before .before .before .before .args .text .now)) (c .before .before .before .before .check .result) (c .before .before .before .before .check .ensures)
+    (c .before .before .if1 .taken) _ _
 
 slice-aggregate-every-relation : tie.Need-slice-aggregate-every-relation
 slice-aggregate-every-relation c = search needs
@@ -46,7 +44,12 @@ same-length-2 : tie.Need-same-length-2
 same-length-2 c = search needs
 
 returns-2 : tie.Need-returns-2
-returns-2 c = accepted-trial (c .before .before .before .before .before .before .before .before .before .before .before .before .before .before .before .before .before .before .before .args .text .now) (fileOf (c .before .before .before .before .before .before .before .before .before .before .before .before .before .before .before .before .before .before .before .args .text .now)) refl (c .before .before .before .before .before .before .before .before .before .before .before .before .before .before .before .before .check .ensures) (c .before .before .before .before .before .before .before .before .before .before .before .before .before .before .if1 .left) (c .before .before .before .before .before .before .before .before .before .before .outline-of .ensures) (c .before .before .before .before .every-relation .ensures) (rw (c .if2 .taken))
+returns-2 c =
+    accepted-trial (fileOf (c .before .before .before .before .before .before .before .before .before .before .before .before .before .before .before .before .before .before .args .text .now))
+    (c .before .before .before .before .before .before .before .before .before .before .before .before .before .before .before .check .result)
+    (c .before .before .before .before .before .before .before .before .before .before .before .before .before .before .before .check .ensures)
+    (c .before .before .before .before .before .before .before .before .before .before .before .before .before .if1 .left)
+    (c .before .before .before .before .every-relation .ensures) (rw (c .if2 .taken))
 
 same-length-3 : tie.Need-same-length-3
 same-length-3 c = search needs
@@ -55,7 +58,12 @@ same-length-4 : tie.Need-same-length-4
 same-length-4 c = search needs
 
 returns-3 : tie.Need-returns-3
-returns-3 c = accepted-trial (c .before .before .before .before .before .before .before .before .before .before .before .before .before .before .before .before .before .before .before .args .text .now) (fileOf (c .before .before .before .before .before .before .before .before .before .before .before .before .before .before .before .before .before .before .before .args .text .now)) refl (c .before .before .before .before .before .before .before .before .before .before .before .before .before .before .before .before .check .ensures) (c .before .before .before .before .before .before .before .before .before .before .before .before .before .before .if1 .left) (c .before .before .before .before .before .before .before .before .before .before .outline-of .ensures) (c .before .before .before .before .every-relation .ensures) (rw (c .if2 .left))
+returns-3 c =
+    accepted-trial (fileOf (c .before .before .before .before .before .before .before .before .before .before .before .before .before .before .before .before .before .before .args .text .now))
+    (c .before .before .before .before .before .before .before .before .before .before .before .before .before .before .before .check .result)
+    (c .before .before .before .before .before .before .before .before .before .before .before .before .before .before .before .check .ensures)
+    (c .before .before .before .before .before .before .before .before .before .before .before .before .before .if1 .left)
+    (c .before .before .before .before .every-relation .ensures) (rw (c .if2 .left))
 
 pub sakthveim-evaluate-spec : {M : Type 1} → statement M
 sakthveim-evaluate-spec =
@@ -67,7 +75,6 @@ sakthveim-evaluate-spec =
     cast-result-2
     add-result
     returns
-    outline-of-requires
     slice-aggregate-every-relation
     slice-aggregate-every-relation-2
     slice-aggregate-every-relation-3

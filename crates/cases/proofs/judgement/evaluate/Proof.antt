@@ -9,7 +9,8 @@ use Rattle.cases.proofs.judgement.evaluate.Statement.{statement}
 use Rattle.cases.proofs.judgement.evaluate.Tie as tie
 
 abbrev Inv-loop : tie.InvT-loop
-Inv-loop bytes starts shape needed asked o counts₀ refuted₀ work₀ v₀ counts refuted work v = Turned bytes starts shape needed asked o counts₀ refuted₀ work₀ counts refuted work v × (length counts ≡ length counts₀) × (length refuted ≡ length refuted₀) × (length work ≡ length work₀)
+Inv-loop bytes starts shape needed asked o counts₀ refuted₀ work₀ v₀ counts refuted work v =
+    Turned bytes starts shape needed asked o counts₀ refuted₀ work₀ counts refuted work v × (length counts ≡ length counts₀) × (length refuted ≡ length refuted₀) × (length work ≡ length work₀)
 
 abbrev μ-loop : tie.MeasureT-loop
 μ-loop bytes starts shape needed asked o counts₀ refuted₀ work₀ v₀ counts refuted work v = o .relations - v
@@ -17,8 +18,8 @@ abbrev μ-loop : tie.MeasureT-loop
 loop-holds : tie.Need-loop-holds Inv-loop μ-loop
 loop-holds c = (turned-none, refl, refl, refl)
 
-frame-at-requires : tie.Need-frame-at-requires Inv-loop μ-loop
-frame-at-requires c κs = search needs
+frame-of-requires : tie.Need-frame-of-requires Inv-loop μ-loop
+frame-of-requires c κs = search needs
 
 note-sign-requires : tie.Need-note-sign-requires Inv-loop μ-loop
 note-sign-requires c κs = search needs
@@ -33,7 +34,14 @@ loop-less : tie.Need-loop-less Inv-loop μ-loop
 loop-less c = omega arith
 
 loop-again : tie.Need-loop-again Inv-loop μ-loop
-loop-again c = (turned-more (c .before .before .before .before .before .before .before .before .before .before .before .before .before .before .before .before .loop .inv .0) (omega arith) (c .before .before .before .before .before .before .before .before .before .before .before .before .before .frame-at .ensures .1) (c .before .before .before .before .before .before .before .before .before .note-sign .ensures) (c .before .before .before .note-rows .ensures), search needs, search needs, search needs)
+loop-again c = (
+  turned-more (c .before .before .before .before .before .before .before .before .before .before .before .before .before .before .before .before .loop .inv .0) (omega arith)
+      (c .before .before .before .before .before .before .before .before .before .before .before .before .before .frame-of .ensures)
+      (c .before .before .before .before .before .before .before .before .before .note-sign .ensures) (c .before .before .before .note-rows .ensures),
+  search needs,
+  search needs,
+  search needs,
+)
 
 same-length : tie.Need-same-length Inv-loop μ-loop
 same-length c = search needs
@@ -54,7 +62,7 @@ evaluate-spec =
     Inv-loop
     μ-loop
     loop-holds
-    frame-at-requires
+    frame-of-requires
     note-sign-requires
     note-rows-requires
     add-v

@@ -1,12 +1,12 @@
 -- `cases::judgement::is_case` meets its contract. Assumes nothing.
 use borrow.Author.Tests.{not-false, not-true}
 use borrow.Author.Needs.{needs}
-use Rattle.cases.proofs.JudgementLaws.{judges-empty, judges-invalid, judges-valid}
+use Rattle.cases.proofs.JudgementLaws.{case-empty, case-invalid, case-valid}
 use Rattle.cases.proofs.judgement.is_case.Statement.{statement}
 use Rattle.cases.proofs.judgement.is_case.Tie as tie
 
 returns : tie.Need-returns
-returns c = judges-empty (not-true (c .before .before .before .before .before .before .before .before .before .args .o .filled) (c .if1 .taken))
+returns c = case-empty (not-true (c .before .before .before .before .before .before .before .before .before .args .o .filled) (c .if1 .taken))
 
 is-valid-requires : tie.Need-is-valid-requires
 is-valid-requires c κs = search needs
@@ -18,7 +18,7 @@ same-length-2 : tie.Need-same-length-2
 same-length-2 c = search needs
 
 returns-2 : tie.Need-returns-2
-returns-2 c = judges-invalid (c .before .is-valid .ensures) (not-true (c .before .is-valid .result) (c .if2 .taken))
+returns-2 c = case-invalid (c .before .is-valid .ensures) (not-true (c .before .is-valid .result) (c .if2 .taken))
 
 evaluate-requires : tie.Need-evaluate-requires
 evaluate-requires c κs = search needs
@@ -36,7 +36,12 @@ same-length-5 : tie.Need-same-length-5
 same-length-5 c = search needs
 
 returns-3 : tie.Need-returns-3
-returns-3 c = judges-valid (not-false (c .before .before .before .before .before .before .before .before .before .before .before .before .before .before .before .before .before .before .before .before .before .before .before .before .before .args .o .filled) (c .before .before .before .before .before .before .before .before .before .before .before .before .before .before .before .before .if1 .left)) (c .before .before .before .before .before .before .before .before .before .before .before .before .before .is-valid .ensures) (not-false (c .before .before .before .before .before .before .before .before .before .before .before .before .before .is-valid .result) (c .before .before .before .before .before .before .before .before .before .before .before .before .if2 .left)) (c .before .before .before .before .before .before .before .before .evaluate .ensures) (c .wanted .ensures)
+returns-3 c = case-valid (not-false
+    (c .before .before .before .before .before .before .before .before .before .before .before .before .before .before .before .before .before .before .before .before .before .before .before .before .before .args .o .filled)
+    (c .before .before .before .before .before .before .before .before .before .before .before .before .before .before .before .before .if1 .left))
+    (c .before .before .before .before .before .before .before .before .before .before .before .before .before .is-valid .ensures) (not-false
+    (c .before .before .before .before .before .before .before .before .before .before .before .before .before .is-valid .result)
+    (c .before .before .before .before .before .before .before .before .before .before .before .before .if2 .left)) (c .before .before .before .before .before .before .before .before .evaluate .ensures) (c .wanted .ensures)
 
 pub is-case-spec : {M : Type 1} → statement M
 is-case-spec =

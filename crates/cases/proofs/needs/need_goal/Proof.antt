@@ -14,7 +14,7 @@ same-length : tie.Need-same-length
 same-length c = search needs
 
 returns : tie.Need-returns
-returns c = goal-asked (c .before .before .before .before .before .before .before .before .args .o) _ _ _ (c .before .before .before .before .before .if1 .taken) (c .before .before .put-byte .ensures)
+returns c = goal-asked (c .before .before .before .before .before .before .before .before .args .goal) _ _ _ (c .before .before .before .before .before .if1 .taken) (c .before .before .put-byte .ensures)
 
 cast-put-byte-2 : tie.Need-cast-put-byte-2
 cast-put-byte-2 c = search needs
@@ -26,7 +26,7 @@ same-length-2 : tie.Need-same-length-2
 same-length-2 c = search needs
 
 returns-2 : tie.Need-returns-2
-returns-2 c = goal-needed (c .before .before .before .before .before .before .before .before .args .o) _ _ _ (c .before .before .before .before .before .if1 .left) (c .before .before .put-byte2 .ensures)
+returns-2 c = goal-needed (c .before .before .before .before .before .before .before .before .args .goal) _ _ _ (c .before .before .before .before .before .if1 .left) (c .before .before .put-byte2 .ensures)
 
 pub need-goal-spec : {M : Type 1} → statement M
 need-goal-spec =

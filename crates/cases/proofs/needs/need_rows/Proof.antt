@@ -19,7 +19,7 @@ same-length : tie.Need-same-length
 same-length c = search needs
 
 returns : tie.Need-returns
-returns c = rows-set (c .before .before .before .before .before .before .before .names .result) (c .before .before .before .before .before .before .before .names .ensures .1) (c .before .before .set-names .ensures)
+returns c = rows-set (c .before .before .before .before .before .before .before .names .ensures) (c .before .before .set-names .ensures)
 
 byte-at-requires-2 : tie.Need-byte-at-requires-2
 byte-at-requires-2 c κs = search needs
@@ -28,7 +28,7 @@ same-length-2 : tie.Need-same-length-2
 same-length-2 c = search needs
 
 returns-2 : tie.Need-returns-2
-returns-2 c = rows-kept _ _ _ _ _ (no-flag (c .before .before .before .byte-at .ensures) (c .before .before .if1 .left)) (λ f. absurd (no-flag (c .before .byte-at2 .ensures) (c .if2 .taken) f))
+returns-2 c = rows-kept _ _ _ _ (no-flag (c .before .before .before .byte-at .ensures) (c .before .before .if1 .left)) (λ f. absurd (no-flag (c .before .byte-at2 .ensures) (c .if2 .taken) f))
 
 byte-at-requires-3 : tie.Need-byte-at-requires-3
 byte-at-requires-3 c κs = search needs
@@ -37,7 +37,7 @@ same-length-3 : tie.Need-same-length-3
 same-length-3 c = search needs
 
 returns-3 : tie.Need-returns-3
-returns-3 c = rows-kept _ _ _ _ _ (no-flag (c .before .before .before .before .before .byte-at .ensures) (c .before .before .before .before .if1 .left)) (λ f. omega (arith, c .before .byte-at3 .ensures, c .if3 .taken))
+returns-3 c = rows-kept _ _ _ _ (no-flag (c .before .before .before .before .before .byte-at .ensures) (c .before .before .before .before .if1 .left)) (λ f. omega (arith, c .before .byte-at3 .ensures, c .if3 .taken))
 
 set-names-requires-2 : tie.Need-set-names-requires-2
 set-names-requires-2 c κs = search needs
@@ -46,7 +46,7 @@ same-length-4 : tie.Need-same-length-4
 same-length-4 c = search needs
 
 returns-4 : tie.Need-returns-4
-returns-4 c = rows-set (c .before .before .before .before .before .before .before .before .before .before .before .names .result) (c .before .before .before .before .before .before .before .before .before .before .before .names .ensures .1) (c .before .before .set-names2 .ensures)
+returns-4 c = rows-set (c .before .before .before .before .before .before .before .before .before .before .before .names .ensures) (c .before .before .set-names2 .ensures)
 
 pub need-rows-spec : {M : Type 1} → statement M
 need-rows-spec =

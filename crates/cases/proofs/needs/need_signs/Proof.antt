@@ -13,7 +13,7 @@ same-length : tie.Need-same-length
 same-length c = search needs
 
 returns : tie.Need-returns
-returns c = signs-kept _ _ _ _ (λ f. absurd (no-flag (c .before .byte-at .ensures) (c .if1 .taken) f))
+returns c = signs-kept _ _ _ (λ f. absurd (no-flag (c .before .byte-at .ensures) (c .if1 .taken) f))
 
 byte-at-requires-2 : tie.Need-byte-at-requires-2
 byte-at-requires-2 c κs = search needs
@@ -22,10 +22,10 @@ same-length-2 : tie.Need-same-length-2
 same-length-2 c = search needs
 
 returns-2 : tie.Need-returns-2
-returns-2 c = signs-kept _ _ _ _ (λ f. omega (arith, c .before .byte-at2 .ensures, c .if2 .taken))
+returns-2 c = signs-kept _ _ _ (λ f. omega (arith, c .before .byte-at2 .ensures, c .if2 .taken))
 
-add-set-names : tie.Need-add-set-names
-add-set-names c = search needs
+names-requires : tie.Need-names-requires
+names-requires c κs = search needs
 
 set-names-requires : tie.Need-set-names-requires
 set-names-requires c κs = search needs
@@ -34,7 +34,7 @@ same-length-3 : tie.Need-same-length-3
 same-length-3 c = search needs
 
 returns-3 : tie.Need-returns-3
-returns-3 c = signs-set (omega (arith, c .before .before .before .before .before .byte-at2 .ensures, c .before .before .before .before .if2 .left)) (c .before .before .set-names .ensures)
+returns-3 c = signs-set (c .before .before .before .before .names .ensures) (c .before .before .set-names .ensures)
 
 pub need-signs-spec : {M : Type 1} → statement M
 need-signs-spec =
@@ -46,7 +46,7 @@ need-signs-spec =
     byte-at-requires-2
     same-length-2
     returns-2
-    add-set-names
+    names-requires
     set-names-requires
     same-length-3
     returns-3)

@@ -1,15 +1,14 @@
 -- `cases::needs::needs_of` meets its contract. Assumes nothing.
-use mathlib.Core.Path.{_≡_, refl, _∙_}
+use mathlib.Core.Path.{_∙_}
 use Prim.Native.Nat.{_≤_}
 use native.Mathlib.Omega.{arith}
-use lib.ListN.{length}
 use borrow.Author.Needs.{needs}
-use Rattle.cases.proofs.NeedLaws.{Reached, reached-goal, reached-next, needs-all}
+use Rattle.cases.proofs.NeedLaws.{Reached, reached-none, reached-next, needs-all}
 use Rattle.cases.proofs.needs.needs_of.Statement.{statement}
 use Rattle.cases.proofs.needs.needs_of.Tie as tie
 
 abbrev Inv-loop : tie.InvT-loop
-Inv-loop bytes starts o needed₀ asked₀ v₀ needed asked v = (v ≤ o .relations) × (length needed ≡ length needed₀) × (length asked ≡ length asked₀) × Reached bytes starts o v needed asked
+Inv-loop bytes starts o needed₀ asked₀ v₀ needed asked v = (v ≤ o .relations) × Reached bytes starts o v needed₀ asked₀ needed asked
 
 abbrev μ-loop : tie.MeasureT-loop
 μ-loop bytes starts o needed₀ asked₀ v₀ needed asked v = v
@@ -18,13 +17,13 @@ need-goal-requires : tie.Need-need-goal-requires Inv-loop μ-loop
 need-goal-requires c κs = search needs
 
 loop-holds : tie.Need-loop-holds Inv-loop μ-loop
-loop-holds c = (omega arith, refl, refl, reached-goal (c .before .before .before .before .need-goal .ensures))
+loop-holds c = (omega arith, reached-none (c .before .before .before .before .before .before .before .before .before .before .before .args .o) _ _)
 
 sub-v : tie.Need-sub-v Inv-loop μ-loop
 sub-v c = search needs
 
-frame-at-requires : tie.Need-frame-at-requires Inv-loop μ-loop
-frame-at-requires c κs = search needs
+frame-of-requires : tie.Need-frame-of-requires Inv-loop μ-loop
+frame-of-requires c κs = search needs
 
 need-rows-requires : tie.Need-need-rows-requires Inv-loop μ-loop
 need-rows-requires c κs = search needs
@@ -36,16 +35,22 @@ loop-less : tie.Need-loop-less Inv-loop μ-loop
 loop-less c = omega arith
 
 loop-again : tie.Need-loop-again Inv-loop μ-loop
-loop-again c = (omega arith, c .before .before .before .before .before .before .need-rows .ensures .more .size ∙ c .before .before .before .before .before .before .before .before .before .before .before .before .loop .inv .1, c .before .before .need-signs .ensures .more .size ∙ c .before .before .before .before .before .before .before .before .before .before .before .before .loop .inv .2, reached-next (c .before .before .before .before .before .before .before .before .before .before .if1 .taken) (c .before .before .before .before .before .before .before .before .before .before .before .before .loop .inv .0) (c .before .before .before .before .before .before .before .before .before .before .before .before .loop .inv .3) (c .before .before .before .before .before .before .before .before .before .frame-at .ensures .1) (c .before .before .before .before .before .before .need-rows .ensures) (c .before .before .need-signs .ensures))
+loop-again c = (
+  omega arith,
+  reached-next (c .before .before .before .before .before .before .before .before .before .before .if1 .taken)
+      (c .before .before .before .before .before .before .before .before .before .before .before .before .loop .inv .0)
+      (c .before .before .before .before .before .before .before .before .before .before .before .before .loop .inv .1)
+      (c .before .before .before .before .before .before .before .before .before .frame-of .ensures) (c .before .before .before .before .before .before .need-rows .ensures) (c .before .before .need-signs .ensures),
+)
 
 same-length : tie.Need-same-length Inv-loop μ-loop
-same-length c = c .before .before .loop .inv .1 ∙ c .before .before .before .before .before .before .before .need-goal .ensures .needed-more .size
+same-length c = c .before .before .loop .inv .1 .needed-more .size ∙ c .before .before .before .before .before .before .before .need-goal .ensures .needed-more .size
 
 same-length-2 : tie.Need-same-length-2 Inv-loop μ-loop
-same-length-2 c = c .before .before .loop .inv .2 ∙ c .before .before .before .before .before .before .before .need-goal .ensures .asked-more .size
+same-length-2 c = c .before .before .loop .inv .1 .asked-more .size ∙ c .before .before .before .before .before .before .before .need-goal .ensures .asked-more .size
 
 returns : tie.Need-returns Inv-loop μ-loop
-returns c = needs-all (c .if1 .left) (c .before .before .loop .inv .1 ∙ c .before .before .before .before .before .before .before .need-goal .ensures .needed-more .size) (c .before .before .loop .inv .2 ∙ c .before .before .before .before .before .before .before .need-goal .ensures .asked-more .size) (c .before .before .loop .inv .3)
+returns c = needs-all (c .before .before .before .before .before .before .before .need-goal .ensures) (c .if1 .left) (c .before .before .loop .inv .1)
 
 pub needs-of-spec : {M : Type 1} → statement M
 needs-of-spec =
@@ -56,7 +61,7 @@ needs-of-spec =
     need-goal-requires
     loop-holds
     sub-v
-    frame-at-requires
+    frame-of-requires
     need-rows-requires
     need-signs-requires
     loop-less

@@ -2,7 +2,7 @@
 use mathlib.Core.Path.{_≡_, refl}
 use Prim.Native.Nat.{_-_, _≤_}
 use native.Mathlib.Omega.{arith}
-use lib.ListN.{length}
+use lib.ListN.{length, take}
 use borrow.Author.Needs.{needs}
 use Rattle.cases.specs.Needs.{NamesSet}
 use Rattle.cases.proofs.FlagLaws.{names-none, names-more, names-all}
@@ -10,19 +10,13 @@ use Rattle.cases.proofs.needs.set_names.Statement.{statement}
 use Rattle.cases.proofs.needs.set_names.Tie as tie
 
 abbrev Inv-loop : tie.InvT-loop
-Inv-loop bytes at count flags₀ i₀ flags i = (i ≤ count) × (length flags ≡ length flags₀) × NamesSet bytes at i flags₀ flags
+Inv-loop names flags₀ i₀ flags i = (i ≤ length names) × (length flags ≡ length flags₀) × NamesSet (take i names) flags₀ flags
 
 abbrev μ-loop : tie.MeasureT-loop
-μ-loop bytes at count flags₀ i₀ flags i = count - i
+μ-loop names flags₀ i₀ flags i = length names - i
 
 loop-holds : tie.Need-loop-holds Inv-loop μ-loop
-loop-holds c = (omega arith, refl, names-none _ _ _)
-
-cast-byte-at : tie.Need-cast-byte-at Inv-loop μ-loop
-cast-byte-at c = search needs
-
-add-byte-at : tie.Need-add-byte-at Inv-loop μ-loop
-add-byte-at c = search needs
+loop-holds c = (omega arith, refl, names-none (c .before .before .args .names .now) _)
 
 byte-at-requires : tie.Need-byte-at-requires Inv-loop μ-loop
 byte-at-requires c κs = search needs
@@ -40,13 +34,18 @@ loop-less : tie.Need-loop-less Inv-loop μ-loop
 loop-less c = omega arith
 
 loop-again : tie.Need-loop-again Inv-loop μ-loop
-loop-again c = (omega arith, search needs, names-more _ _ _ _ _ _ _ (c .before .before .before .before .before .before .loop .inv .2) (c .before .before .before .before .byte-at .ensures) (c .before .before .put-byte .ensures))
+loop-again c = (
+  omega arith,
+  search needs,
+  names-more _ _ _ _ _ _ (c .before .before .before .before .before .loop-test .taken) (c .before .before .before .before .before .before .loop .inv .2)
+      (c .before .before .before .before .byte-at .ensures) (c .before .before .put-byte .ensures),
+)
 
 same-length : tie.Need-same-length Inv-loop μ-loop
 same-length c = c .before .loop .inv .1
 
 returns : tie.Need-returns Inv-loop μ-loop
-returns c = names-all (omega arith) (c .before .loop .inv .2)
+returns c = names-all (c .loop-test .left) (c .before .loop .inv .2)
 
 pub set-names-spec : {M : Type 1} → statement M
 set-names-spec =
@@ -55,8 +54,6 @@ set-names-spec =
     Inv-loop
     μ-loop
     loop-holds
-    cast-byte-at
-    add-byte-at
     byte-at-requires
     cast-named
     put-byte-requires

@@ -45,7 +45,9 @@ same-requires : tie.Need-same-requires Inv-loop μ-loop
 same-requires c κs = search needs
 
 returns-2 : tie.Need-returns-2 Inv-loop μ-loop
-returns-2 c = pairs-stop _ _ _ _ _ _ _ _ (c .before .before .before .before .before .before .before .before .loop .inv .1) (c .before .before .before .before .before .before .before .loop-test .taken) (c .before .before .before .before .before .byte-at .ensures) (c .before .before .before .before .byte-at2 .ensures) (c .before .before .before .cell .ensures) (c .before .before .cell2 .ensures) (sym (c .before .same .ensures) ∙ not-true _ (c .if2 .taken))
+returns-2 c = pairs-stop _ _ _ _ _ _ _ _ (c .before .before .before .before .before .before .before .before .loop .inv .1) (c .before .before .before .before .before .before .before .loop-test .taken)
+    (c .before .before .before .before .before .byte-at .ensures) (c .before .before .before .before .byte-at2 .ensures) (c .before .before .before .cell .ensures)
+    (c .before .before .cell2 .ensures) (sym (c .before .same .ensures) ∙ not-true _ (c .if2 .taken))
 
 add-next : tie.Need-add-next Inv-loop μ-loop
 add-next c = search needs
@@ -57,7 +59,12 @@ loop-less : tie.Need-loop-less Inv-loop μ-loop
 loop-less c = omega arith
 
 loop-again : tie.Need-loop-again Inv-loop μ-loop
-loop-again c = (omega arith, pairs-next _ _ _ _ _ _ _ _ (c .before .before .before .before .before .before .before .before .loop .inv .1) (c .before .before .before .before .before .before .before .loop-test .taken) (c .before .before .before .before .before .byte-at .ensures) (c .before .before .before .before .byte-at2 .ensures) (c .before .before .before .cell .ensures) (c .before .before .cell2 .ensures) (sym (c .before .same .ensures) ∙ not-false _ (c .if2 .left)))
+loop-again c = (
+  omega arith,
+  pairs-next _ _ _ _ _ _ _ _ (c .before .before .before .before .before .before .before .before .loop .inv .1)
+      (c .before .before .before .before .before .before .before .loop-test .taken) (c .before .before .before .before .before .byte-at .ensures) (c .before .before .before .before .byte-at2 .ensures)
+      (c .before .before .before .cell .ensures) (c .before .before .cell2 .ensures) (sym (c .before .same .ensures) ∙ not-false _ (c .if2 .left)),
+)
 
 returns-3 : tie.Need-returns-3 Inv-loop μ-loop
 returns-3 c = pairs-whole _ _ _ _ _ _ _ _ (omega arith) (c .before .loop .inv .1)

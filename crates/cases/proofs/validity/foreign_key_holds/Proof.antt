@@ -8,25 +8,16 @@ use Rattle.cases.proofs.validity.foreign_key_holds.Statement.{statement
 use Rattle.cases.proofs.validity.foreign_key_holds.Tie as tie
 
 abbrev Inv-loop : tie.InvT-loop
-Inv-loop bytes at counts work child parent count children parents i₀ i = (i ≤ children) × ParentsTo bytes at counts work i
+Inv-loop frame counts work child parent count children parents i₀ i = (i ≤ children) × ParentsTo frame counts work i
 
 abbrev μ-loop : tie.MeasureT-loop
-μ-loop bytes at counts work child parent count children parents i₀ i = children - i
-
-add-byte-at : tie.Need-add-byte-at Inv-loop μ-loop
-add-byte-at c = search needs
+μ-loop frame counts work child parent count children parents i₀ i = children - i
 
 byte-at-requires : tie.Need-byte-at-requires Inv-loop μ-loop
 byte-at-requires c κs = search needs
 
-add-byte-at-2 : tie.Need-add-byte-at-2 Inv-loop μ-loop
-add-byte-at-2 c = search needs
-
 byte-at-requires-2 : tie.Need-byte-at-requires-2 Inv-loop μ-loop
 byte-at-requires-2 c κs = search needs
-
-add-byte-at-3 : tie.Need-add-byte-at-3 Inv-loop μ-loop
-add-byte-at-3 c = search needs
 
 byte-at-requires-3 : tie.Need-byte-at-requires-3 Inv-loop μ-loop
 byte-at-requires-3 c κs = search needs
@@ -44,16 +35,15 @@ byte-at-requires-5 : tie.Need-byte-at-requires-5 Inv-loop μ-loop
 byte-at-requires-5 c κs = search needs
 
 loop-holds : tie.Need-loop-holds Inv-loop μ-loop
-loop-holds c = (omega arith, parents-none _ _ _ _)
-
-add-has-parent : tie.Need-add-has-parent Inv-loop μ-loop
-add-has-parent c = search needs
+loop-holds c = (omega arith, parents-none _ _ _)
 
 has-parent-requires : tie.Need-has-parent-requires Inv-loop μ-loop
 has-parent-requires c κs = search needs
 
 returns : tie.Need-returns Inv-loop μ-loop
-returns c = parents-stop _ _ _ _ (c .before .before .before .before .before .before .before .before .byte-at .ensures) (c .before .before .before .before .before .before .before .byte-at2 .ensures) (c .before .before .before .before .before .before .byte-at3 .ensures) (c .before .before .before .before .before .byte-at4 .ensures) (c .before .before .before .before .byte-at5 .ensures) (c .before .before .loop-test .taken) (c .before .has-parent .ensures) (not-true _ (c .if1 .taken))
+returns c = parents-stop _ _ _ (c .before .before .before .before .before .before .before .before .byte-at .ensures) (c .before .before .before .before .before .before .before .byte-at2 .ensures)
+    (c .before .before .before .before .before .before .byte-at3 .ensures) (c .before .before .before .before .before .byte-at4 .ensures) (c .before .before .before .before .byte-at5 .ensures)
+    (c .before .before .loop-test .taken) (c .before .has-parent .ensures) (not-true _ (c .if1 .taken))
 
 add-i : tie.Need-add-i Inv-loop μ-loop
 add-i c = search needs
@@ -62,10 +52,16 @@ loop-less : tie.Need-loop-less Inv-loop μ-loop
 loop-less c = omega arith
 
 loop-again : tie.Need-loop-again Inv-loop μ-loop
-loop-again c = (omega arith, parents-more _ _ _ _ (c .before .before .before .before .before .before .before .before .byte-at .ensures) (c .before .before .before .before .before .before .before .byte-at2 .ensures) (c .before .before .before .before .before .before .byte-at3 .ensures) (c .before .before .before .before .before .byte-at4 .ensures) (c .before .before .before .before .byte-at5 .ensures) (c .before .before .before .loop .inv .1) (c .before .has-parent .ensures) (not-false _ (c .if1 .left)))
+loop-again c = (
+  omega arith,
+  parents-more _ _ _ (c .before .before .before .before .before .before .before .before .byte-at .ensures)
+      (c .before .before .before .before .before .before .before .byte-at2 .ensures) (c .before .before .before .before .before .before .byte-at3 .ensures)
+      (c .before .before .before .before .before .byte-at4 .ensures) (c .before .before .before .before .byte-at5 .ensures) (c .before .before .before .loop .inv .1) (c .before .has-parent .ensures) (not-false _ (c .if1 .left)),
+)
 
 returns-2 : tie.Need-returns-2 Inv-loop μ-loop
-returns-2 c = parents-whole _ _ _ _ (c .before .before .before .before .before .before .byte-at .ensures) (c .before .before .before .before .before .byte-at2 .ensures) (c .before .before .before .before .byte-at3 .ensures) (c .before .before .before .byte-at4 .ensures) (c .before .before .byte-at5 .ensures) (omega arith) (c .before .loop .inv .1)
+returns-2 c = parents-whole _ _ _ (c .before .before .before .before .before .before .byte-at .ensures) (c .before .before .before .before .before .byte-at2 .ensures)
+    (c .before .before .before .before .byte-at3 .ensures) (c .before .before .before .byte-at4 .ensures) (c .before .before .byte-at5 .ensures) (omega arith) (c .before .loop .inv .1)
 
 pub foreign-key-holds-spec : {M : Type 1} → statement M
 foreign-key-holds-spec =
@@ -73,18 +69,14 @@ foreign-key-holds-spec =
     (tie.spec
     Inv-loop
     μ-loop
-    add-byte-at
     byte-at-requires
-    add-byte-at-2
     byte-at-requires-2
-    add-byte-at-3
     byte-at-requires-3
     cast-byte-at
     byte-at-requires-4
     cast-byte-at-2
     byte-at-requires-5
     loop-holds
-    add-has-parent
     has-parent-requires
     returns
     add-i

@@ -1,5 +1,4 @@
 -- `cases::validity::foreign_keys_hold` meets its contract. Assumes nothing.
-use mathlib.Core.Path.{refl}
 use Prim.Native.Nat.{_-_, _≤_}
 use native.Mathlib.Omega.{arith}
 use borrow.Author.Tests.{not-false, not-true}
@@ -20,26 +19,21 @@ loop-holds c = (omega arith, keys-first _ _ _ _ _)
 returns : tie.Need-returns Inv-loop μ-loop
 returns c = keys-inside _ _ _ _ _ (c .before .before .loop .inv .1) (c .before .loop-test .taken) (c .if1 .taken)
 
-add-foreign-key-holds : tie.Need-add-foreign-key-holds Inv-loop μ-loop
-add-foreign-key-holds c = search needs
+frame-at-requires : tie.Need-frame-at-requires Inv-loop μ-loop
+frame-at-requires c κs = search needs
 
 foreign-key-holds-requires : tie.Need-foreign-key-holds-requires Inv-loop μ-loop
 foreign-key-holds-requires c κs = search needs
 
 returns-2 : tie.Need-returns-2 Inv-loop μ-loop
-returns-2 c = keys-stop _ _ _ _ _ (c .before .before .before .before .loop .inv .1) (c .before .before .before .loop-test .taken) (c .before .foreign-key-holds .ensures) (not-true _ (c .if2 .taken))
+returns-2 c = keys-stop _ _ _ _ _ (c .before .before .before .before .before .loop .inv .1) (c .before .before .before .before .loop-test .taken) (c .before .before .frame-at .ensures)
+    (c .before .foreign-key-holds .ensures) (not-true _ (c .if2 .taken))
 
 add-next : tie.Need-add-next Inv-loop μ-loop
 add-next c = search needs
 
-shared-slice-read-next : tie.Need-shared-slice-read-next Inv-loop μ-loop
-shared-slice-read-next c = search needs
-
-cast-next : tie.Need-cast-next Inv-loop μ-loop
-cast-next c = omega (arith, c .shared-slice-known3 .given (c .before .before .before .before .before .loop .next))
-
 add-next-2 : tie.Need-add-next-2 Inv-loop μ-loop
-add-next-2 c = omega (arith, c .shared-slice-known3 .given (c .before .before .before .before .before .loop .next))
+add-next-2 c = search needs
 
 add-k : tie.Need-add-k Inv-loop μ-loop
 add-k c = search needs
@@ -48,7 +42,11 @@ loop-less : tie.Need-loop-less Inv-loop μ-loop
 loop-less c = omega arith
 
 loop-again : tie.Need-loop-again Inv-loop μ-loop
-loop-again c = (omega arith, keys-next _ _ _ _ _ (c .before .before .before .before .before .loop .inv .1) (c .before .before .before .before .loop-test .taken) (c .before .before .foreign-key-holds .ensures) (not-false _ (c .before .if2 .left)) refl)
+loop-again c = (
+  omega arith,
+  keys-next _ _ _ _ _ (c .before .before .before .before .before .loop .inv .1) (c .before .before .before .before .loop-test .taken) (c .before .before .frame-at .ensures)
+      (c .before .foreign-key-holds .ensures) (not-false _ (c .if2 .left)),
+)
 
 returns-3 : tie.Need-returns-3 Inv-loop μ-loop
 returns-3 c = keys-end _ _ _ _ _ (omega arith) (c .before .loop .inv .1)
@@ -61,12 +59,10 @@ foreign-keys-hold-spec =
     μ-loop
     loop-holds
     returns
-    add-foreign-key-holds
+    frame-at-requires
     foreign-key-holds-requires
     returns-2
     add-next
-    shared-slice-read-next
-    cast-next
     add-next-2
     add-k
     loop-less

@@ -32,7 +32,8 @@ key-holds-requires : tie.Need-key-holds-requires Inv-loop μ-loop
 key-holds-requires c κs = search needs
 
 returns : tie.Need-returns Inv-loop μ-loop
-returns c = keys-stop _ _ _ _ (c .before .before .before .before .before .loop-test .taken) (c .before .before .before .before .byte-at .ensures) (c .before .before .before .width-of .ensures) (c .before .before .mask-of .ensures) (c .before .key-holds .ensures) (not-true _ (c .if1 .taken))
+returns c = keys-stop _ _ _ _ (c .before .before .before .before .before .loop-test .taken) (c .before .before .before .before .byte-at .ensures) (c .before .before .before .width-of .ensures)
+    (c .before .before .mask-of .ensures) (c .before .key-holds .ensures) (not-true _ (c .if1 .taken))
 
 add-t : tie.Need-add-t Inv-loop μ-loop
 add-t c = search needs
@@ -41,7 +42,11 @@ loop-less : tie.Need-loop-less Inv-loop μ-loop
 loop-less c = omega arith
 
 loop-again : tie.Need-loop-again Inv-loop μ-loop
-loop-again c = (omega arith, keys-more _ _ _ _ (c .before .before .before .before .before .before .loop .inv .1) (c .before .before .before .before .before .loop-test .taken) (c .before .before .before .before .byte-at .ensures) (c .before .before .before .width-of .ensures) (c .before .before .mask-of .ensures) (c .before .key-holds .ensures) (not-false _ (c .if1 .left)))
+loop-again c = (
+  omega arith,
+  keys-more _ _ _ _ (c .before .before .before .before .before .before .loop .inv .1) (c .before .before .before .before .before .loop-test .taken)
+      (c .before .before .before .before .byte-at .ensures) (c .before .before .before .width-of .ensures) (c .before .before .mask-of .ensures) (c .before .key-holds .ensures) (not-false _ (c .if1 .left)),
+)
 
 returns-2 : tie.Need-returns-2 Inv-loop μ-loop
 returns-2 c = keys-whole _ _ _ _ (omega arith) (c .before .loop .inv .1)

@@ -3,7 +3,7 @@ use mathlib.Core.Path.{ap₂, _∙_}
 use Prim.Native.Nat.{min}
 use borrow.Author.Needs.{needs}
 use Rattle.meaning.specs.Bounds.{setBound}
-use Rattle.checker.specs.Layout.{setOperation}
+use Rattle.checker.specs.FixedFaults.{setOperation}
 use Rattle.checker.proofs.SetLaws.{set-entered}
 use Rattle.checker.proofs.entries.enter_set.Statement.{statement}
 use Rattle.checker.proofs.entries.enter_set.Tie as tie

@@ -1,25 +1,33 @@
 -- `checker::entries::times_row` meets its contract. Assumes nothing.
-use mathlib.Core.Path.{_≡_, refl, sym, ap, _∙_}
-use Prim.Native.Nat.{_+_, _*_, _≤_, min}
+use mathlib.Core.Path.{_≡_, sym, ap, _∙_}
+use Prim.Native.Nat.{_-_, _*_, _≤_, min}
 use native.Mathlib.Omega.{arith}
 use borrow.Author.Needs.{needs}
 use Rattle.value.specs.Value.{size}
-use Rattle.checker.specs.Packed.{tooMany, cappedProduct, columnsFrom}
-use Rattle.checker.proofs.CandidateLaws.{row-turn, no-columns}
+use Rattle.checker.specs.CandidateCount.{tooMany, cappedProduct, columnsFrom}
+use Rattle.checker.proofs.CandidateLaws.{all-left, row-turn, no-columns}
 use Rattle.checker.proofs.entries.times_row.Statement.{statement}
 use Rattle.checker.proofs.entries.times_row.Tie as tie
 
 abbrev Inv-loop : tie.InvT-loop
-Inv-loop packed start columns n p₀ at₀ left₀ p at left = (p ≤ tooMany) × (at + 4 * left ≡ start + 4 * columns) × (cappedProduct p (columnsFrom packed at left) ≡ cappedProduct n (columnsFrom packed start columns))
+Inv-loop shape ends t n width p₀ c₀ p c = (p ≤ tooMany) × (c ≤ width) × (cappedProduct p (columnsFrom shape ends t c (width - c)) ≡ cappedProduct n (columnsFrom shape ends t 0 width))
 
 abbrev μ-loop : tie.MeasureT-loop
-μ-loop packed start columns n p₀ at₀ left₀ p at left = left
+μ-loop shape ends t n width p₀ c₀ p c = width - c
+
+width-of-requires : tie.Need-width-of-requires Inv-loop μ-loop
+width-of-requires c κs = search needs
 
 loop-holds : tie.Need-loop-holds Inv-loop μ-loop
-loop-holds c = (omega arith, refl, refl)
+loop-holds c = (
+  omega arith,
+  omega arith,
+  ap (λ k. cappedProduct (c .before .before .args .n) (columnsFrom (c .before .before .args .shape .now) (c .before .before .args .ends .now) (c .before .before .args .t) 0 k))
+      (all-left (c .width-of .result)),
+)
 
-domain-at-requires : tie.Need-domain-at-requires Inv-loop μ-loop
-domain-at-requires c κs = search needs
+domain-of-requires : tie.Need-domain-of-requires Inv-loop μ-loop
+domain-of-requires c κs = search needs
 
 size-requires : tie.Need-size-requires Inv-loop μ-loop
 size-requires c κs = search needs
@@ -27,11 +35,8 @@ size-requires c κs = search needs
 capped-requires : tie.Need-capped-requires Inv-loop μ-loop
 capped-requires c κs = search needs
 
-add-at : tie.Need-add-at Inv-loop μ-loop
-add-at c = search needs
-
-sub-left : tie.Need-sub-left Inv-loop μ-loop
-sub-left c = search needs
+add-c : tie.Need-add-c Inv-loop μ-loop
+add-c c = search needs
 
 loop-less : tie.Need-loop-less Inv-loop μ-loop
 loop-less c = search needs
@@ -40,11 +45,18 @@ loop-again : tie.Need-loop-again Inv-loop μ-loop
 loop-again c = (
   omega (arith, c .capped .ensures),
   omega arith,
-  row-turn (c .before .before .before .before .before .before .args .packed .now) (c .before .before .before .before .loop .at) (c .before .before .before .before .loop .left) (c .before .before .before .before .loop .p) (c .capped .result) (omega arith) (c .capped .ensures ∙ ap (λ s. min (c .before .before .before .before .loop .p * s) tooMany) (c .before .size .ensures ∙ ap size (c .before .before .domain-at .ensures))) ∙ c .before .before .before .before .loop .inv .2,
+  row-turn (c .before .before .before .before .before .before .before .args .shape .now) (c .before .before .before .before .before .before .before .args .ends .now)
+      (c .before .before .before .before .before .before .before .args .t) (c .before .before .before .before .loop .c) (c .before .before .before .before .before .width-of .result) (c .before .before .before .before .loop .p)
+      (c .capped .result) (omega arith) (c .capped .ensures ∙ ap (λ s. min (c .before .before .before .before .loop .p * s) tooMany) (c .before .size .ensures ∙ ap size (c .before .before .domain-of .ensures)))
+      ∙ c .before .before .before .before .loop .inv .2,
 )
 
 returns : tie.Need-returns Inv-loop μ-loop
-returns c = (sym (no-columns (c .before .before .before .args .packed .now) (c .before .loop .at) (c .before .loop .left) (c .before .loop .p) (omega arith)) ∙ c .before .loop .inv .2, c .before .loop .inv .0)
+returns c = (
+  rw (c .before .before .width-of .ensures) at (sym (no-columns (c .before .before .before .before .args .shape .now) (c .before .before .before .before .args .ends .now) (c .before .before .before .before .args .t)
+      (c .before .loop .c) (c .before .before .width-of .result) (c .before .loop .p) (omega arith)) ∙ c .before .loop .inv .2),
+  c .before .loop .inv .0,
+)
 
 pub times-row-spec : {M : Type 1} → statement M
 times-row-spec =
@@ -52,12 +64,12 @@ times-row-spec =
     (tie.spec
     Inv-loop
     μ-loop
+    width-of-requires
     loop-holds
-    domain-at-requires
+    domain-of-requires
     size-requires
     capped-requires
-    add-at
-    sub-left
+    add-c
     loop-less
     loop-again
     returns)

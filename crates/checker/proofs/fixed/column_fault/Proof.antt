@@ -1,3 +1,4 @@
+-- `checker::fixed::column_fault` meets its contract. Assumes nothing.
 use mathlib.Core.Path.{sym, ap, _∙_}
 use mathlib.Core.Bool.{cond}
 use mir.Syntax.{w32}
@@ -6,41 +7,29 @@ use Rattle.checker.proofs.FixedLaws.{column-short, column-answer}
 use borrow.Author.Needs.{needs}
 use Rattle.checker.proofs.fixed.column_fault.Statement.{statement}
 use Rattle.checker.proofs.fixed.column_fault.Tie as tie
-use Rattle.checker.proofs.fixed.column_fault.Reads as reads
-use Rattle.checker.proofs.fixed.column_fault.Lts as lts
-use Rattle.checker.proofs.fixed.number_at.Reads as number-at-reads
-use Rattle.value.proofs.integer.compare.Reads as compare-reads
 
--- src/fixed.rt:62:22
 add-if1 : tie.Need-add-if1
 add-if1 c = search needs
 
--- src/fixed.rt:63:9
 returns : tie.Need-returns
 returns c = sym (column-short (c .before .before .args .frame .now) (c .before .before .args .at) (c .if1 .taken))
 
--- src/fixed.rt:65:9
 number-at-requires : tie.Need-number-at-requires
 number-at-requires c κs = search needs
 
--- src/fixed.rt:66:31
 add-number-at : tie.Need-add-number-at
 add-number-at c = search needs
 
--- src/fixed.rt:66:9
 number-at-requires-2 : tie.Need-number-at-requires-2
 number-at-requires-2 c κs = search needs
 
--- src/fixed.rt:67:8
 compare-requires : tie.Need-compare-requires
 compare-requires c κs = search needs
 
--- src/fixed.rt:58:1
 returns-2 : tie.Need-returns-2
 returns-2 c = ap (λ t. cond t 0 5) (sym (c .if2 .taken))
     ∙ column-answer (c .before .before .before .before .before .before .args .frame .now) (c .before .before .before .before .before .before .args .at) _ _ _ (c .before .before .before .before .if1 .left) (back w32 _ (c .before .before .before .number-at .ok) ∙ c .before .before .before .number-at .ensures) (back w32 _ (c .before .before .number-at2 .ok) ∙ c .before .before .number-at2 .ensures) (c .before .compare .ensures)
 
--- src/fixed.rt:58:1
 returns-3 : tie.Need-returns-3
 returns-3 c = ap (λ t. cond t 0 5) (sym (c .if2 .left))
     ∙ column-answer (c .before .before .before .before .before .before .args .frame .now) (c .before .before .before .before .before .before .args .at) _ _ _ (c .before .before .before .before .if1 .left) (back w32 _ (c .before .before .before .number-at .ok) ∙ c .before .before .before .number-at .ensures) (back w32 _ (c .before .before .number-at2 .ok) ∙ c .before .before .number-at2 .ensures) (c .before .compare .ensures)

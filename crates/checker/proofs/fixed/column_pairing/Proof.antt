@@ -1,23 +1,18 @@
+-- `checker::fixed::column_pairing` meets its contract. Assumes nothing.
 use mathlib.Core.Path.{sym}
 use borrow.Author.Tests.{eq-eqb, ne-eqb}
-use Rattle.checker.specs.Layout.{columnPairing}
+use Rattle.checker.specs.FixedFaults.{columnPairing}
 use borrow.Author.Needs.{needs}
 use Rattle.checker.proofs.fixed.column_pairing.Statement.{statement}
 use Rattle.checker.proofs.fixed.column_pairing.Tie as tie
-use Rattle.checker.proofs.fixed.column_pairing.Reads as reads
-use Rattle.checker.proofs.fixed.column_pairing.Lts as lts
-use Rattle.checker.proofs.fixed.parents_of.Reads as parents-of-reads
 
--- src/fixed.rt:161:8
 parents-of-requires : tie.Need-parents-of-requires
 parents-of-requires c κs = search needs
 
--- src/fixed.rt:158:1
 returns : tie.Need-returns
 unfolding columnPairing
 returns c = rw (sym (c .before .parents-of .ensures), eq-eqb _ _ (c .if1 .taken))
 
--- src/fixed.rt:158:1
 returns-2 : tie.Need-returns-2
 unfolding columnPairing
 returns-2 c = rw (sym (c .before .parents-of .ensures), ne-eqb _ _ (c .if1 .left))

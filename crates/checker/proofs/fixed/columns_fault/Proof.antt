@@ -1,51 +1,47 @@
+-- `checker::fixed::columns_fault` meets its contract. Assumes nothing.
 use Prim.Native.Nat.{_+_, _*_}
 use mathlib.Core.Path.{_≡_, refl, sym, _∙_}
 use native.Mathlib.Omega.{arith}
-use Rattle.checker.specs.Layout.{columnsFault}
+use Rattle.catalog.specs.Frames.{columnsStart}
+use Rattle.checker.specs.FixedFaults.{columnsFault}
 use Rattle.checker.proofs.SizedLaws.{sized-column, times-stop, times-go, times-end}
 use Rattle.checker.proofs.fixed.columns_fault.Statement.{statement}
 use Rattle.checker.proofs.fixed.columns_fault.Tie as tie
-use Rattle.checker.proofs.fixed.columns_fault.Reads as reads
-use Rattle.checker.proofs.fixed.columns_fault.Lts as lts
-use Rattle.checker.proofs.fixed.column_fault.Reads as column-fault-reads
 
 abbrev Inv-loop : tie.InvT-loop
-Inv-loop frame n at₀ left₀ at left = (columnsFault frame at left ≡ columnsFault frame 4 n) × (at + 4 * left ≡ 4 + 4 * n)
+Inv-loop frame n at₀ left₀ at left = (columnsFault frame at left ≡ columnsFault frame columnsStart n) × (at + 4 * left ≡ columnsStart + 4 * n)
 
 abbrev μ-loop : tie.MeasureT-loop
 μ-loop frame n at₀ left₀ at left = left
 
--- src/fixed.rt:68:5
 loop-holds : tie.Need-loop-holds Inv-loop μ-loop
 loop-holds c = (refl, refl)
 
--- src/fixed.rt:69:13
 column-fault-requires : tie.Need-column-fault-requires Inv-loop μ-loop
 column-fault-requires c κs = omega arith
 
--- src/fixed.rt:71:13
 returns : tie.Need-returns Inv-loop μ-loop
 unfolding columnsFault
-returns c = sym (times-stop sized-column (c .before .before .before .before .before .args .frame .now) (c .before .before .before .loop .at) (c .before .before .before .loop .left) _ (c .before .before .loop-test .taken) (c .before .column-fault .ensures) (c .if1 .taken)) ∙ c .before .before .before .loop .inv .0
+returns c = sym (times-stop sized-column (c .before .before .before .before .before .args .frame .now) (c .before .before .before .loop .at) (c .before .before .before .loop .left) _ (c .before .before .loop-test .taken)
+    (c .before .column-fault .ensures) (c .if1 .taken)) ∙ c .before .before .before .loop .inv .0
 
--- src/fixed.rt:73:14
 add-at : tie.Need-add-at Inv-loop μ-loop
 add-at c = omega arith
 
--- src/fixed.rt:74:16
 sub-left : tie.Need-sub-left Inv-loop μ-loop
 sub-left c = omega arith
 
--- src/fixed.rt:68:5
 loop-less : tie.Need-loop-less Inv-loop μ-loop
 loop-less c = omega arith
 
--- src/fixed.rt:68:5
 loop-again : tie.Need-loop-again Inv-loop μ-loop
 unfolding columnsFault
-loop-again c = (sym (times-go sized-column (c .before .before .before .before .before .args .frame .now) (c .before .before .before .loop .at) (c .before .before .before .loop .left) _ (c .before .before .loop-test .taken) (c .before .column-fault .ensures) (c .if1 .left)) ∙ c .before .before .before .loop .inv .0, omega arith)
+loop-again c = (
+  sym (times-go sized-column (c .before .before .before .before .before .args .frame .now) (c .before .before .before .loop .at) (c .before .before .before .loop .left) _ (c .before .before .loop-test .taken)
+      (c .before .column-fault .ensures) (c .if1 .left)) ∙ c .before .before .before .loop .inv .0,
+  omega arith,
+)
 
--- src/fixed.rt:63:1
 returns-2 : tie.Need-returns-2 Inv-loop μ-loop
 unfolding columnsFault
 returns-2 c = sym (times-end sized-column (c .before .before .before .args .frame .now) (c .before .loop .at) (c .before .loop .left) (c .loop-test .left)) ∙ c .before .loop .inv .0

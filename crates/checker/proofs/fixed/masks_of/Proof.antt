@@ -1,28 +1,22 @@
-use Prim.Native.Nat.{ℕ, _≤_, _^_, min}
-use mathlib.Core.Path.{_≡_, sym, ap}
+-- `checker::fixed::masks_of` meets its contract. Assumes nothing.
+use Prim.Native.Nat.{_^_, min}
+use mathlib.Core.Path.{_≡_, ap}
 use native.Mathlib.Omega.{arith}
 use Rattle.checker.proofs.fixed.masks_of.Statement.{statement}
 use Rattle.checker.proofs.fixed.masks_of.Tie as tie
-use Rattle.checker.proofs.fixed.masks_of.Reads as reads
-use Rattle.checker.proofs.fixed.masks_of.Lts as lts
 
--- src/fixed.rt:37:1
 returns : tie.Need-returns
 returns c = rw (c .match .keys1)
 
--- src/fixed.rt:37:1
 returns-2 : tie.Need-returns-2
 returns-2 c = rw (c .match .keys2)
 
--- src/fixed.rt:37:1
 returns-3 : tie.Need-returns-3
 returns-3 c = rw (c .match .keys3)
 
--- src/fixed.rt:37:1
 returns-4 : tie.Need-returns-4
 returns-4 c = rw (c .match .keys4)
 
--- src/fixed.rt:37:1
 returns-5 : tie.Need-returns-5
 returns-5 c = let e : 4 ≡ min (c .before .args .n) 4 = omega arith in ap (λ k. 2 ^ k) e
 

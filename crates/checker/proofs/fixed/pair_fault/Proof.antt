@@ -1,31 +1,23 @@
+-- `checker::fixed::pair_fault` meets its contract. Assumes nothing.
 use Rattle.checker.proofs.FixedLaws.{pair-law}
 use mathlib.Core.Path.{sym, ap₂, _∙_}
 use Rattle.checker.specs.Faults.{first}
 use borrow.Author.Needs.{needs}
 use Rattle.checker.proofs.fixed.pair_fault.Statement.{statement}
 use Rattle.checker.proofs.fixed.pair_fault.Tie as tie
-use Rattle.checker.proofs.fixed.pair_fault.Reads as reads
-use Rattle.checker.proofs.fixed.pair_fault.Lts as lts
-use Rattle.checker.proofs.fields.below.Reads as below-reads
-use Rattle.checker.proofs.fields.first_of.Reads as first-of-reads
 
--- src/fixed.rt:105:9
 below-requires : tie.Need-below-requires
 below-requires c κs = search needs
 
--- src/fixed.rt:106:39
 add-below : tie.Need-add-below
 add-below c = search needs
 
--- src/fixed.rt:106:9
 below-requires-2 : tie.Need-below-requires-2
 below-requires-2 c κs = search needs
 
--- src/fixed.rt:107:5
 first-of-requires : tie.Need-first-of-requires
 first-of-requires c κs = search needs
 
--- src/fixed.rt:101:1
 returns : tie.Need-returns
 returns c = c .first-of .ensures ∙ ap₂ first (c .before .before .below .ensures) (c .before .below2 .ensures) ∙ sym (pair-law (c .before .before .before .before .args .frame .now) (c .before .before .before .before .args .at) (c .before .before .before .before .args .c) (c .before .before .before .before .args .p))
 

@@ -1,9 +1,10 @@
+-- `checker::fixed::parents_of` meets its contract. Assumes nothing.
 use Prim.Native.Nat.{_+_, _*_, _≤_}
-use mathlib.Core.Path.{_≡_, refl, sym, ap, _∙_}
+use mathlib.Core.Path.{_≡_, ap, _∙_}
 use native.Mathlib.Omega.{arith}
 use lib.Dec.{eqb}
 use Rattle.value.specs.Bag.{tick}
-use Rattle.checker.specs.Layout.{parentCount}
+use Rattle.checker.specs.FixedFaults.{parentCount}
 use Rattle.checker.proofs.PairLaws.{parents-more, parents-end}
 use Rattle.checker.proofs.fixed.parents_of.Statement.{statement}
 use Rattle.checker.proofs.fixed.parents_of.Tie as tie
@@ -14,43 +15,33 @@ Inv-loop frame i n count₀ at₀ left₀ count at left = (count + parentCount f
 abbrev μ-loop : tie.MeasureT-loop
 μ-loop frame i n count₀ at₀ left₀ count at left = left
 
--- src/fixed.rt:140:5
 loop-holds : tie.Need-loop-holds Inv-loop μ-loop
 loop-holds c = (omega arith, omega arith, omega arith)
 
--- src/fixed.rt:141:54
 add-byte-at : tie.Need-add-byte-at Inv-loop μ-loop
 add-byte-at c = omega arith
 
--- src/fixed.rt:141:31
 byte-at-requires : tie.Need-byte-at-requires Inv-loop μ-loop
 byte-at-requires c κs = omega arith
 
--- src/fixed.rt:141:13
 one-if-requires : tie.Need-one-if-requires Inv-loop μ-loop
 one-if-requires c κs = omega arith
 
--- src/fixed.rt:142:17
 add-count : tie.Need-add-count Inv-loop μ-loop
 add-count c = omega arith
 
--- src/fixed.rt:143:14
 add-at : tie.Need-add-at Inv-loop μ-loop
 add-at c = omega arith
 
--- src/fixed.rt:144:16
 sub-left : tie.Need-sub-left Inv-loop μ-loop
 sub-left c = omega arith
 
--- src/fixed.rt:140:5
 loop-less : tie.Need-loop-less Inv-loop μ-loop
 loop-less c = omega arith
 
--- src/fixed.rt:140:5
 loop-again : tie.Need-loop-again Inv-loop μ-loop
 loop-again c = (parents-more (c .before .before .before .before .before .args .frame .now) (c .before .before .before .before .before .args .i) (c .before .before .before .loop .at) (c .before .before .before .loop .left) _ _ _ (c .before .before .loop-test .taken) (c .one-if .ensures .0 ∙ ap (λ b. tick (eqb b (c .before .before .before .before .before .args .i)) 0) (c .before .byte-at .ensures)) (c .before .before .before .loop .inv .0), omega arith, omega arith)
 
--- src/fixed.rt:134:1
 returns : tie.Need-returns Inv-loop μ-loop
 returns c = omega (arith, parents-end (c .before .before .before .args .frame .now) (c .before .before .before .args .i) (c .before .loop .at) (c .before .loop .left) (c .loop-test .left))
 

@@ -5,7 +5,7 @@ use Prim.Native.Nat.{ℕ, _≤_, _<_, min}
 use native.Mathlib.Omega.{arith}
 use lib.Dec.{leb}
 use borrow.Author.Tests.{eq-eqb, ne-eqb, le-leb, lt-leb}
-use Rattle.checker.specs.Layout.{setRules}
+use Rattle.checker.specs.FixedFaults.{setRules}
 use borrow.Author.Needs.{needs}
 use Rattle.checker.proofs.fixed.set_rules.Statement.{statement}
 use Rattle.checker.proofs.fixed.set_rules.Tie as tie

@@ -9,10 +9,10 @@ use Rattle.checker.proofs.plan.start_of.Statement.{statement}
 use Rattle.checker.proofs.plan.start_of.Tie as tie
 
 abbrev Inv-loop : tie.InvT-loop
-Inv-loop packed n at₀ left₀ at left = (at + 256 * left ≤ 256 * n) × (startFrom packed at left ≡ startFrom packed 0 n)
+Inv-loop bytes n at₀ left₀ at left = (at + 256 * left ≤ 256 * n) × (startFrom bytes at left ≡ startFrom bytes 0 n)
 
 abbrev μ-loop : tie.MeasureT-loop
-μ-loop packed n at₀ left₀ at left = left
+μ-loop bytes n at₀ left₀ at left = left
 
 loop-holds : tie.Need-loop-holds Inv-loop μ-loop
 loop-holds c = (omega arith, refl)
@@ -39,10 +39,10 @@ loop-less : tie.Need-loop-less Inv-loop μ-loop
 loop-less c = search needs
 
 loop-again : tie.Need-loop-again Inv-loop μ-loop
-loop-again c = (omega arith, rw (c .byte-at .ensures) (start-turn (c .before .before .before .before .args .packed .now) (c .before .before .loop .at) (c .before .before .loop .left) (omega arith) ∙ c .before .before .loop .inv .1))
+loop-again c = (omega arith, rw (c .byte-at .ensures) (start-turn (c .before .before .before .before .args .bytes .now) (c .before .before .loop .at) (c .before .before .loop .left) (omega arith) ∙ c .before .before .loop .inv .1))
 
 returns : tie.Need-returns Inv-loop μ-loop
-returns c = start-end (c .before .before .before .args .packed .now) (c .before .loop .at) (c .before .loop .left) (omega arith) ∙ c .before .loop .inv .1
+returns c = start-end (c .before .before .before .args .bytes .now) (c .before .loop .at) (c .before .loop .left) (omega arith) ∙ c .before .loop .inv .1
 
 pub start-of-spec : {M : Type 1} → statement M
 start-of-spec =

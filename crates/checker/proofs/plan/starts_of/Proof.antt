@@ -8,10 +8,10 @@ use Rattle.checker.proofs.plan.starts_of.Statement.{statement}
 use Rattle.checker.proofs.plan.starts_of.Tie as tie
 
 abbrev Inv-loop : tie.InvT-loop
-Inv-loop packed tables keys starts₀ r₀ starts r = (r ≤ 16) × Starts packed tables keys r starts
+Inv-loop bytes tables keys starts₀ r₀ starts r = (r ≤ 16) × Starts bytes tables keys r starts
 
 abbrev μ-loop : tie.MeasureT-loop
-μ-loop packed tables keys starts₀ r₀ starts r = 16 - r
+μ-loop bytes tables keys starts₀ r₀ starts r = 16 - r
 
 loop-holds : tie.Need-loop-holds Inv-loop μ-loop
 loop-holds c = (omega arith, starts-none _ _ _ _ refl)

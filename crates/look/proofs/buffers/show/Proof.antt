@@ -49,7 +49,9 @@ loop-less : tie.Need-loop-less Inv-loop μ-loop
 loop-less c = omega arith
 
 loop-again : tie.Need-loop-again Inv-loop μ-loop
-loop-again c = showing-more _ _ _ (c .before .before .before .before .before .before .before .loop .inv) (omega arith) (c .before .before .before .before .before .word-at .ensures) (c .before .before .before .before .cell .ensures) (back w16 _ (c .before .before .shown .ok) ∙ c .before .before .shown .ensures) (c .before .put-short .ensures)
+loop-again c =
+    showing-more _ _ _ (c .before .before .before .before .before .before .before .loop .inv) (omega arith) (c .before .before .before .before .before .word-at .ensures)
+    (c .before .before .before .before .cell .ensures) (back w16 _ (c .before .before .shown .ok) ∙ c .before .before .shown .ensures) (c .before .put-short .ensures)
 
 same-length : tie.Need-same-length Inv-loop μ-loop
 same-length c = c .before .loop .inv .length-kept

@@ -49,7 +49,12 @@ loop-less : tie.Need-loop-less Inv-loop μ-loop
 loop-less c = omega arith
 
 loop-again : tie.Need-loop-again Inv-loop μ-loop
-loop-again c = (row-more (c .before .before .before .before .before .loop .inv .0) (c .before .before .before .before .before .loop .inv .2) (c .before .before .put-word .ensures), omega arith, c .before .before .before .before .before .loop .inv .2, search needs)
+loop-again c = (
+  row-more (c .before .before .before .before .before .loop .inv .0) (c .before .before .before .before .before .loop .inv .2) (c .before .before .put-word .ensures),
+  omega arith,
+  c .before .before .before .before .before .loop .inv .2,
+  search needs,
+)
 
 add-result : tie.Need-add-result Inv-loop μ-loop
 add-result c = search needs

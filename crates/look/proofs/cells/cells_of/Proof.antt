@@ -32,7 +32,12 @@ loop-less : tie.Need-loop-less Inv-loop μ-loop
 loop-less c = omega arith
 
 loop-again : tie.Need-loop-again Inv-loop μ-loop
-loop-again c = (tables-more (c .before .before .before .before .before .before .before .loop .inv .0) (c .before .before .before .before .before .bound-of .ensures) (c .before .before .before .before .width-of .ensures) (c .before .before .add-table .ensures), omega arith, tables-few (c .before .before .add-table .ensures) (omega arith) (omega arith) (c .before .before .before .before .before .before .before .loop .inv .2))
+loop-again c = (
+  tables-more (c .before .before .before .before .before .before .before .loop .inv .0) (c .before .before .before .before .before .bound-of .ensures)
+      (c .before .before .before .before .width-of .ensures) (c .before .before .add-table .ensures),
+  omega arith,
+  tables-few (c .before .before .add-table .ensures) (omega arith) (omega arith) (c .before .before .before .before .before .before .before .loop .inv .2),
+)
 
 same-length : tie.Need-same-length Inv-loop μ-loop
 same-length c = search needs

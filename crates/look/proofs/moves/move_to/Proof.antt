@@ -6,10 +6,10 @@ use Rattle.look.proofs.moves.move_to.Statement.{statement}
 use Rattle.look.proofs.moves.move_to.Tie as tie
 
 abbrev Inv-loop : tie.InvT-loop
-Inv-loop bytes starts codes cells k next work₀ q₀ j₀ work q j = Under bytes starts codes cells k next work₀ work j q
+Inv-loop shape ends codes cells k next work₀ q₀ j₀ work q j = Under shape ends codes cells k next work₀ work j q
 
 abbrev μ-loop : tie.MeasureT-loop
-μ-loop bytes starts codes cells k next work₀ q₀ j₀ work q j = j
+μ-loop shape ends codes cells k next work₀ q₀ j₀ work q j = j
 
 loop-holds : tie.Need-loop-holds Inv-loop μ-loop
 loop-holds c = under-first
@@ -36,7 +36,9 @@ loop-less : tie.Need-loop-less Inv-loop μ-loop
 loop-less c = omega arith
 
 loop-again : tie.Need-loop-again Inv-loop μ-loop
-loop-again c = under-next (c .before .before .before .before .before .before .loop-test .taken) (c .before .before .before .before .before .before .before .loop .inv) (c .before .before .before .word-at .ensures) (c .before .put-digit .ensures)
+loop-again c =
+    under-next (c .before .before .before .before .before .before .loop-test .taken) (c .before .before .before .before .before .before .before .loop .inv) (c .before .before .before .word-at .ensures)
+    (c .before .put-digit .ensures)
 
 same-length-2 : tie.Need-same-length-2 Inv-loop μ-loop
 same-length-2 c = c .before .loop .inv .length-kept

@@ -6,10 +6,10 @@ use Rattle.look.proofs.moves.place.Statement.{statement}
 use Rattle.look.proofs.moves.place.Tie as tie
 
 abbrev Inv-loop : tie.InvT-loop
-Inv-loop bytes starts codes cells k work₀ q₀ j₀ work q j = Under bytes starts codes cells k k work₀ work j q
+Inv-loop shape ends codes cells k work₀ q₀ j₀ work q j = Under shape ends codes cells k k work₀ work j q
 
 abbrev μ-loop : tie.MeasureT-loop
-μ-loop bytes starts codes cells k work₀ q₀ j₀ work q j = j
+μ-loop shape ends codes cells k work₀ q₀ j₀ work q j = j
 
 loop-holds : tie.Need-loop-holds Inv-loop μ-loop
 loop-holds c = under-first

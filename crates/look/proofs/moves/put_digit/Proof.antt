@@ -22,7 +22,7 @@ rem-digit : tie.Need-rem-digit
 rem-digit c = search needs
 
 cast-digit : tie.Need-cast-digit
-cast-digit c = digit-fits (c .before .before .before .before .before .before .args .q .new) (c .before .before .size .result) (c .before .if1 .left) (search needs)
+cast-digit c = digit-fits (c .before .before .before .before .before .args .q .new) (c .before .before .size .result) (c .before .if1 .left) (search needs)
 
 cast-relation : tie.Need-cast-relation
 cast-relation c = search needs
@@ -49,7 +49,11 @@ same-length : tie.Need-same-length
 same-length c = search needs
 
 returns-2 : tie.Need-returns-2
-returns-2 c = digit-put (columnOf (c .before .before .before .before .before .before .before .before .before .domain-of .result)) (c .before .before .before .before .before .before .before .before .before .domain-of .ensures) (c .before .before .before .before .before .before .before .before .size .result) (valueOf (c .before .before .before .before .digit .result)) (c .before .before .before .before .before .before .before .before .size .ensures) (c .before .before .before .before .digit .ensures) (c .before .before .before .put-cell .ensures)
+returns-2 c =
+    digit-put (columnOf (c .before .before .before .before .before .before .before .before .before .domain-of .result))
+    (c .before .before .before .before .before .before .before .before .before .domain-of .ensures) (c .before .before .before .before .before .before .before .before .size .result)
+    (valueOf (c .before .before .before .before .digit .result)) (c .before .before .before .before .before .before .before .before .size .ensures) (c .before .before .before .before .digit .ensures)
+    (c .before .before .before .put-cell .ensures)
 
 pub put-digit-spec : {M : Type 1} → statement M
 put-digit-spec =

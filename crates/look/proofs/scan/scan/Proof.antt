@@ -7,11 +7,11 @@ use Rattle.look.proofs.scan.scan.Statement.{statement}
 use Rattle.look.proofs.scan.scan.Tie as tie
 
 abbrev Inv-loop : tie.InvT-loop
-Inv-loop bytes starts shape needed asked o codes cells start end counts₀ refuted₀ work₀ k₀ counts refuted work k =
-    Scanned bytes starts shape needed asked o codes cells start counts₀ refuted₀ work₀ k counts refuted work
+Inv-loop bytes starts shape ends needed asked o goal codes cells start end counts₀ refuted₀ work₀ k₀ counts refuted work k =
+    Scanned bytes starts shape ends needed asked o goal codes cells start counts₀ refuted₀ work₀ k counts refuted work
 
 abbrev μ-loop : tie.MeasureT-loop
-μ-loop bytes starts shape needed asked o codes cells start end counts₀ refuted₀ work₀ k₀ counts refuted work k = end - k
+μ-loop bytes starts shape ends needed asked o goal codes cells start end counts₀ refuted₀ work₀ k₀ counts refuted work k = end - k
 
 loop-holds : tie.Need-loop-holds Inv-loop μ-loop
 loop-holds c = scanned-none
@@ -38,7 +38,9 @@ loop-less : tie.Need-loop-less Inv-loop μ-loop
 loop-less c = omega (arith, c .before .before .before .before .before .before .before .before .before .tested .ensures .follows)
 
 loop-again : tie.Need-loop-again Inv-loop μ-loop
-loop-again c = scanned-more (c .before .before .before .before .before .before .before .before .before .before .before .before .before .before .loop .inv) (c .before .before .before .before .before .before .before .before .before .tested .ensures) (c .before .before .before .if1 .left) (c .before .move-to .ensures)
+loop-again c =
+    scanned-more (c .before .before .before .before .before .before .before .before .before .before .before .before .before .before .loop .inv)
+    (c .before .before .before .before .before .before .before .before .before .tested .ensures) (c .before .before .before .if1 .left) (c .before .move-to .ensures)
 
 same-length-4 : tie.Need-same-length-4 Inv-loop μ-loop
 same-length-4 c = c .before .loop .inv .counts-size

@@ -41,7 +41,10 @@ same-length : tie.Need-same-length
 same-length c = search needs
 
 returns : tie.Need-returns
-returns c = searches (c .before .before .before .before .before .before .before .before .before .before .before .before .before .before .before .before .before .before .count-tables .ensures) (c .before .before .before .before .before .before .before .before .before .before .before .before .before .before .needs-of .ensures) (c .before .before .before .before .before .before .before .before .before .before .place .ensures) (c .before .before .before .scan .ensures)
+returns c =
+    searches (c .before .before .before .before .before .before .before .before .before .before .before .before .before .before .before .before .before .before .count-tables .ensures)
+    (c .before .before .before .before .before .before .before .before .before .before .before .before .before .before .needs-of .ensures)
+    (c .before .before .before .before .before .before .before .before .before .before .place .ensures) (c .before .before .before .scan .ensures)
 
 pub search-spec : {M : Type 1} → statement M
 search-spec =

@@ -17,7 +17,9 @@ same-length-3 : tie.Need-same-length-3
 same-length-3 c = search needs
 
 returns : tie.Need-returns
-returns c = tests-case (c .before .before .before .before .before .before .is-case .ensures) (c .before .before .before .before .before .before .before .before .before .before .before .before .before .before .before .before .before .pre) (c .if1 .taken)
+returns c =
+    tests-case (c .before .before .before .before .before .before .is-case .ensures)
+    (c .before .before .before .before .before .before .before .before .before .before .before .before .before .before .before .before .before .pre) (c .if1 .taken)
 
 add-result : tie.Need-add-result
 add-result c = search needs
@@ -32,7 +34,9 @@ same-length-6 : tie.Need-same-length-6
 same-length-6 c = search needs
 
 returns-2 : tie.Need-returns-2
-returns-2 c = tests-none (c .before .before .before .before .before .before .is-case .ensures) (c .before .before .before .before .before .before .before .before .before .before .before .before .before .before .before .before .before .pre) (c .if1 .left)
+returns-2 c =
+    tests-none (c .before .before .before .before .before .before .is-case .ensures)
+    (c .before .before .before .before .before .before .before .before .before .before .before .before .before .before .before .before .before .pre) (c .if1 .left)
 
 pub tested-spec : {M : Type 1} → statement M
 tested-spec =
