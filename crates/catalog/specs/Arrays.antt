@@ -44,10 +44,11 @@ itemsIn shape ends fs = map (rangesIn shape ends) fs
 abbrev pub rangeAt : List ℕ → List ℤ → ℕ → ℕ → Range
 rangeAt shape ends r c = getD (rangesIn shape ends r) c (constantOf (pos 0))
 
--- a table's column, which its range tells
+-- what stands for a column past the last
 abbrev pub noColumn : Column
 noColumn = record { lo = pos 0; hi = pos 0 }
 
+-- a table's column, which its range tells
 unfoldable pub columnAt : List ℕ → List ℤ → ℕ → ℕ → Column
 columnAt shape ends r c = record { lo = narrow16 (rangeAt shape ends r c .lo); hi = narrow16 (rangeAt shape ends r c .hi) }
 

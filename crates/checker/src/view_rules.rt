@@ -37,7 +37,7 @@ fn factor(items: &[u8], shape: &[u8], i: usize) -> u8
 }
 
 // The product of the row bounds of up to 3 from items.
-fn product_bound(items: &[u8], shape: &[u8]) -> u32
+fn product(items: &[u8], shape: &[u8]) -> u32
     ensures { λ p. ⌜ Product (now (shape .entry)) (now (items .entry)) p ⌝ }
 {
     let a = factor(items, shape, 0) as u32;
@@ -167,7 +167,7 @@ pub fn basic_rules(frame: &[u8], shape: &[u8], ends: &mut [i32], r: u8) -> Ruled
 {
     let items = frames::from_list(frame);
     let parts = frames::parts_after(frame, false);
-    let rule = plain(product_bound(items, shape));
+    let rule = plain(product(items, shape));
     let w = bounds::condition(frame, parts.body, items, shape, ends, rule);
     tail(frame, w, parts.width, items, shape, ends, r, rule)
 }
@@ -179,7 +179,7 @@ pub fn grouped_rules(frame: &[u8], shape: &[u8], ends: &mut [i32], r: u8) -> Rul
 {
     let items = frames::from_list(frame);
     let parts = frames::parts_after(frame, true);
-    let bound = product_bound(items, shape);
+    let bound = product(items, shape);
     let w = bounds::condition(frame, parts.body, items, shape, ends, plain(bound));
     let places = inside(frame, w.next);
     let rule = Rule {

@@ -67,7 +67,34 @@ module _ (t : ℕ) where
   condition-uses = (testing-reads.Asked, testing-reads.Learnt, condition-below t, condition.Post, two-below t, two.Post, is-within-reads.Asked, is-within-reads.Learnt)
 
   abbrev expression-uses : expression-lts.Claims
-  expression-uses = (sizing-reads.Asked, sizing-reads.Learnt, constant-reads.Asked, constant-reads.Learnt, column-reads.Asked, column-reads.Learnt, expression-below t, expression.Post, step-reads.Asked, step-reads.Learnt, rounded-reads.Asked, rounded-reads.Learnt, condition-below t, condition.Post, two-below t, two.Post, chosen-reads.Asked, chosen-reads.Learnt, inside-reads.Asked, inside-reads.Learnt, byte-at-reads.Asked, byte-at-reads.Learnt, aggregated-reads.Asked, aggregated-reads.Learnt, operated-reads.Asked, operated-reads.Learnt)
+  expression-uses = (
+    sizing-reads.Asked,
+    sizing-reads.Learnt,
+    constant-reads.Asked,
+    constant-reads.Learnt,
+    column-reads.Asked,
+    column-reads.Learnt,
+    expression-below t,
+    expression.Post,
+    step-reads.Asked,
+    step-reads.Learnt,
+    rounded-reads.Asked,
+    rounded-reads.Learnt,
+    condition-below t,
+    condition.Post,
+    two-below t,
+    two.Post,
+    chosen-reads.Asked,
+    chosen-reads.Learnt,
+    inside-reads.Asked,
+    inside-reads.Learnt,
+    byte-at-reads.Asked,
+    byte-at-reads.Learnt,
+    aggregated-reads.Asked,
+    aggregated-reads.Learnt,
+    operated-reads.Asked,
+    operated-reads.Learnt,
+  )
 
   abbrev two-uses : two-lts.Claims
   two-uses = (expression-below t, expression.Post)
@@ -121,10 +148,12 @@ module _ (t : ℕ) where
   condition-returns-3 c = on-negated _ _ _ _ _ _ (c .before .before .before .if1 .left) (c .before .match .keys2) (c .condition .ensures)
 
   condition-returns-4 : condition-lts.Need-returns-4 condition-uses (condition-at t) condition.Post
-  condition-returns-4 c = on-comparison _ _ _ _ _ _ (c .before .before .before .before .before .before .before .before .if1 .left) (omega arith) (omega arith) (c .before .before .before .two .ensures) (c .before .before .is-within .ensures) (c .before .is-within2 .ensures) (c .testing3 .ensures)
+  condition-returns-4 c = on-comparison _ _ _ _ _ _ (c .before .before .before .before .before .before .before .before .if1 .left) (omega arith) (omega arith) (c .before .before .before .two .ensures)
+      (c .before .before .is-within .ensures) (c .before .is-within2 .ensures) (c .testing3 .ensures)
 
   condition-returns-5 : condition-lts.Need-returns-5 condition-uses (condition-at t) condition.Post
-  condition-returns-5 c = on-connection _ _ _ _ _ _ (c .before .before .before .before .before .before .before .before .before .before .before .before .if1 .left) (omega arith) (omega arith) (c .before .before .before .before .before .before .condition2 .ensures) (c .before .before .before .before .before .condition3 .ensures) (c .testing4 .ensures)
+  condition-returns-5 c = on-connection _ _ _ _ _ _ (c .before .before .before .before .before .before .before .before .before .before .before .before .if1 .left) (omega arith) (omega arith)
+      (c .before .before .before .before .before .before .condition2 .ensures) (c .before .before .before .before .before .condition3 .ensures) (c .testing4 .ensures)
 
   condition-returns-6 : condition-lts.Need-returns-6 condition-uses (condition-at t) condition.Post
   condition-returns-6 c = unknownC _ _ _ _ _ _ (c .before .before .before .before .if1 .left) (λ l h. ⊎-elim (λ u. omega arith) (λ u. omega arith) (c .before .if2 .came)) (c .testing5 .ensures)
@@ -211,7 +240,8 @@ module _ (t : ℕ) where
   expression-returns-5 c = on-choice _ _ _ _ _ _ (c .before .before .before .before .before .if1 .left) (c .before .before .before .match .keys4) (c .before .before .condition .ensures) (c .before .two .ensures) (c .chosen .ensures)
 
   expression-returns-6 : expression-lts.Need-returns-6 expression-uses (expression-at t) expression.Post
-  expression-returns-6 c = on-aggregate _ _ _ _ _ _ (c .before .before .before .before .before .before .if1 .left) (c .before .before .before .before .match .keys5) (c .before .byte-at .ensures) (c .before .before .before .inside .ensures) (c .before .before .expression2 .ensures) (c .aggregated .ensures)
+  expression-returns-6 c = on-aggregate _ _ _ _ _ _ (c .before .before .before .before .before .before .if1 .left) (c .before .before .before .before .match .keys5) (c .before .byte-at .ensures)
+      (c .before .before .before .inside .ensures) (c .before .before .expression2 .ensures) (c .aggregated .ensures)
 
   expression-returns-7 : expression-lts.Need-returns-7 expression-uses (expression-at t) expression.Post
   expression-returns-7 c = on-operation _ _ _ _ _ _ (c .before .before .before .before .before .before .if1 .left) (omega arith) (omega arith) (c .before .before .two2 .ensures) (c .before .operated .ensures) (c .sizing2 .ensures)
@@ -232,8 +262,14 @@ pub +condition+expression+two-spec : {M : Type 1} → statement M
 +condition+expression+two-spec =
     close μ-condition μ-expression μ-two
     (λ t. condition-lts.spec (condition-uses t) (condition-at t) condition.Post
-    (condition-testing-requires t) (condition-returns t) (condition-shared-slice-read-token t) (condition-add-body t) (condition-testing-requires-2 t) (condition-condition-requires t) (condition-two-requires t) (condition-is-within-requires t) (condition-is-within-requires-2 t) (condition-testing-requires-3 t) (condition-condition-requires-2 t) (condition-condition-requires-3 t) (condition-testing-requires-4 t) (condition-testing-requires-5 t) (condition-returns-2 t) (condition-returns-3 t) (condition-returns-4 t) (condition-returns-5 t) (condition-returns-6 t))
+    (condition-testing-requires t) (condition-returns t) (condition-shared-slice-read-token t) (condition-add-body t) (condition-testing-requires-2 t) (condition-condition-requires t) (condition-two-requires t)
+    (condition-is-within-requires t) (condition-is-within-requires-2 t) (condition-testing-requires-3 t) (condition-condition-requires-2 t) (condition-condition-requires-3 t) (condition-testing-requires-4 t)
+    (condition-testing-requires-5 t) (condition-returns-2 t) (condition-returns-3 t) (condition-returns-4 t) (condition-returns-5 t) (condition-returns-6 t))
     (λ t. expression-lts.spec (expression-uses t) (expression-at t) expression.Post
-    (expression-sizing-requires t) (expression-returns t) (expression-shared-slice-read-token t) (expression-add-body t) (expression-constant-requires t) (expression-column-requires t) (expression-add-expression t) (expression-expression-requires t) (expression-step-requires t) (expression-rounded-requires t) (expression-condition-requires t) (expression-two-requires t) (expression-chosen-requires t) (expression-add-expression-2 t) (expression-inside-requires t) (expression-expression-requires-2 t) (expression-byte-at-requires t) (expression-aggregated-requires t) (expression-two-requires-2 t) (expression-sub-operated t) (expression-operated-requires t) (expression-sizing-requires-2 t) (expression-sizing-requires-3 t) (expression-returns-2 t) (expression-returns-3 t) (expression-returns-4 t) (expression-returns-5 t) (expression-returns-6 t) (expression-returns-7 t) (expression-returns-8 t))
+    (expression-sizing-requires t) (expression-returns t) (expression-shared-slice-read-token t) (expression-add-body t) (expression-constant-requires t) (expression-column-requires t) (expression-add-expression t)
+    (expression-expression-requires t) (expression-step-requires t) (expression-rounded-requires t) (expression-condition-requires t) (expression-two-requires t) (expression-chosen-requires t) (expression-add-expression-2 t)
+    (expression-inside-requires t) (expression-expression-requires-2 t) (expression-byte-at-requires t) (expression-aggregated-requires t) (expression-two-requires-2 t) (expression-sub-operated t) (expression-operated-requires t)
+    (expression-sizing-requires-2 t) (expression-sizing-requires-3 t) (expression-returns-2 t) (expression-returns-3 t) (expression-returns-4 t) (expression-returns-5 t) (expression-returns-6 t) (expression-returns-7 t)
+    (expression-returns-8 t))
     (λ t. two-lts.spec (two-uses t) (two-at t) two.Post
     (two-expression-requires t) (two-expression-requires-2 t) (two-returns t))

@@ -42,7 +42,8 @@ returns c = let l : SFits w32 (c .before .constant .result .lo) = search needs i
     c .sizing .ensures
     ∙ ap (λ (v : Ranged). sized (c .before .before .before .before .before .before .args .at + 2) true v)
     (sym (ranged-fits (c .before .constant .result) l h)
-    ∙ ap (λ (q : Range). ranged q) (c .before .constant .ensures ∙ ap (λ (z : ℤ). constantOf z) (back w16 _ (c .before .before .from-bytes .ok) ∙ c .before .before .from-bytes .ensures ∙ rw (c .before .before .before .before .byte-at .ensures, c .before .before .before .byte-at2 .ensures))))
+    ∙ ap (λ (q : Range). ranged q) (c .before .constant .ensures ∙ ap (λ (z : ℤ). constantOf z) (back w16 _ (c .before .before .from-bytes .ok) ∙ c .before .before .from-bytes .ensures ∙ rw
+    (c .before .before .before .before .byte-at .ensures, c .before .before .before .byte-at2 .ensures))))
 
 pub constant-spec : {M : Type 1} → statement M
 constant-spec =

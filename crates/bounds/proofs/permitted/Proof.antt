@@ -8,7 +8,8 @@ grouping-requires : tie.Need-grouping-requires
 grouping-requires c κs = search needs
 
 returns : tie.Need-returns
-returns c = rw (columns-grouping (c .before .before .before .before .before .args .frame .now) (c .before .before .before .before .before .args .rule) (c .before .before .before .if1 .taken)) (past-grouping _ _ _ _ _ (c .before .if2 .taken) (c .grouping .ensures))
+returns c = rw (columns-grouping (c .before .before .before .before .before .args .frame .now) (c .before .before .before .before .before .args .rule) (c .before .before .before .if1 .taken))
+    (past-grouping _ _ _ _ _ (c .before .if2 .taken) (c .grouping .ensures))
 
 grouping-requires-2 : tie.Need-grouping-requires-2
 grouping-requires-2 c κs = search needs

@@ -10,7 +10,8 @@ width-of-requires : tie.Need-width-of-requires
 width-of-requires c κs = search needs
 
 returns : tie.Need-returns
-returns c = range-past (c .before .before .before .args .shape .now) (c .before .before .before .args .ends .now) (c .before .before .before .args .r) (c .before .before .before .args .c) (rw (c .before .width-of .ensures) at (c .if1 .taken))
+returns c = range-past (c .before .before .before .args .shape .now) (c .before .before .before .args .ends .now) (c .before .before .before .args .r) (c .before .before .before .args .c)
+    (rw (c .before .width-of .ensures) at (c .if1 .taken))
 
 place-of-requires : tie.Need-place-of-requires
 place-of-requires c κs = search needs
@@ -26,7 +27,8 @@ end-at-requires-2 c κs = search needs
 
 returns-2 : tie.Need-returns-2
 returns-2 c = rw (back w32 _ (c .before .end-at .ok), back w32 _ (c .end-at2 .ok), c .before .end-at .ensures, c .end-at2 .ensures, c .before .before .place-of .ensures)
-    (range-there (c .before .before .before .before .before .before .args .shape .now) (c .before .before .before .before .before .before .args .ends .now) (c .before .before .before .before .before .before .args .r) (c .before .before .before .before .before .before .args .c) (rw (c .before .before .before .before .width-of .ensures) at (c .before .before .before .if1 .left)))
+    (range-there (c .before .before .before .before .before .before .args .shape .now) (c .before .before .before .before .before .before .args .ends .now) (c .before .before .before .before .before .before .args .r)
+    (c .before .before .before .before .before .before .args .c) (rw (c .before .before .before .before .width-of .ensures) at (c .before .before .before .if1 .left)))
 
 pub range-at-spec : {M : Type 1} → statement M
 range-at-spec =

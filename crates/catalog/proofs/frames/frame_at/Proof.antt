@@ -18,7 +18,8 @@ part-requires : tie.Need-part-requires
 part-requires c κs = search needs
 
 returns : tie.Need-returns
-returns c = c .part .ensures ∙ frame-is (c .before .before .before .before .args .bytes .now) (c .before .before .before .before .args .at) (c .before .before .byte-at .result) (c .before .inside .result) (c .before .before .byte-at .ensures) (c .before .inside .ensures)
+returns c = c .part .ensures ∙ frame-is (c .before .before .before .before .args .bytes .now) (c .before .before .before .before .args .at) (c .before .before .byte-at .result) (c .before .inside .result)
+    (c .before .before .byte-at .ensures) (c .before .inside .ensures)
 
 pub frame-at-spec : {M : Type 1} → statement M
 frame-at-spec =

@@ -23,7 +23,8 @@ part-result-end : tie.Need-part-result-end
 part-result-end c = search needs
 
 returns : tie.Need-returns
-returns c = part-is (c .before .before .before .before .args .bytes .now) (c .before .before .before .before .args .at) (c .before .before .before .before .args .n) (c .before .before .inside .result) (c .before .inside2 .result) (c .before .before .inside .ensures) (c .before .inside2 .ensures)
+returns c = part-is (c .before .before .before .before .args .bytes .now) (c .before .before .before .before .args .at) (c .before .before .before .before .args .n) (c .before .before .inside .result) (c .before .inside2 .result)
+    (c .before .before .inside .ensures) (c .before .inside2 .ensures)
 
 pub part-spec : {M : Type 1} → statement M
 part-spec =

@@ -36,7 +36,17 @@ from-bytes-requires-2 c κs = search needs
 
 returns : tie.Need-returns
 unfolding columnFrom columnOf
-returns c = rw (back w16 _ (c .before .before .before .from-bytes .ok), back w16 _ (c .from-bytes2 .ok), c .before .before .before .from-bytes .ensures, c .from-bytes2 .ensures, c .before .before .before .before .before .byte-at .ensures, c .before .before .before .before .byte-at2 .ensures, c .before .before .byte-at3 .ensures, c .before .byte-at4 .ensures)
+returns c = rw (
+  back w16 _ (c .before .before .before .from-bytes .ok),
+  back w16 _
+      (c .from-bytes2 .ok),
+  c .before .before .before .from-bytes .ensures,
+  c .from-bytes2 .ensures,
+  c .before .before .before .before .before .byte-at .ensures,
+  c .before .before .before .before .byte-at2 .ensures,
+  c .before .before .byte-at3 .ensures,
+  c .before .byte-at4 .ensures,
+)
 
 pub domain-at-spec : {M : Type 1} → statement M
 domain-at-spec =

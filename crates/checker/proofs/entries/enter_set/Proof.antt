@@ -42,11 +42,22 @@ same-length-2 : tie.Need-same-length-2
 same-length-2 c = search needs
 
 returns : tie.Need-returns
-returns c = set-entered (c .before .before .before .before .before .before .before .before .before .before .before .before .before .before .before .before .before .before .before .before .args .left) (c .before .before .before .before .before .before .before .before .before .before .before .before .before .before .before .before .before .before .before .before .args .right) (c .before .before .before .before .before .before .before .before .before .before .before .before .before .before .before .before .before .before .before .before .args .r) (c .before .before .before .before .before .before .before .before .before .before .before .before .before .least .result)
-    (c .before .before .before .before .before .before .before .before .set-bound .result) (c .before .before .before .before .before .before .before .before .before .before .before .before .before .before .before .before .before .before .before .before .args .shape .now) (c .before .before .before .before .before .before .before .before .before .before .before .before .before .before .before .before .before .before .before .before .args .ends .now) _ _ (c .before .before .enter-view .ensures)
-    (c .before .before .before .before .before .before .before .before .before .before .before .before .before .before .before .before .before .before .before .before .args .union) (c .before .before .before .before .before .before .before .before .before .before .before .before .before .before .before .before .before .before .joined-with .result) (c .before .before .before .before .before .before .before .before .before .before .before .before .before .before .before .before .before .before .joined-with .ensures)
-    (c .before .before .before .before .before .before .before .before .before .before .before .before .before .least .ensures ∙ ap₂ min (c .before .before .before .before .before .before .before .before .before .before .before .before .before .before .before .before .width-of .ensures) (c .before .before .before .before .before .before .before .before .before .before .before .before .before .before .width-of2 .ensures))
-    (c .before .before .before .before .before .before .before .before .set-bound .ensures ∙ ap₂ (λ a b. min (setBound (setOperation (c .before .before .before .before .before .before .before .before .before .before .before .before .before .before .before .before .before .before .before .before .args .union)) a b) 255) (c .before .before .before .before .before .before .before .before .before .before .before .bound-of .ensures) (c .before .before .before .before .before .before .before .before .before .bound-of2 .ensures))
+returns c = set-entered (c .before .before .before .before .before .before .before .before .before .before .before .before .before .before .before .before .before .before .before .before .args .left)
+    (c .before .before .before .before .before .before .before .before .before .before .before .before .before .before .before .before .before .before .before .before .args .right)
+    (c .before .before .before .before .before .before .before .before .before .before .before .before .before .before .before .before .before .before .before .before .args .r)
+    (c .before .before .before .before .before .before .before .before .before .before .before .before .before .least .result)
+    (c .before .before .before .before .before .before .before .before .set-bound .result)
+    (c .before .before .before .before .before .before .before .before .before .before .before .before .before .before .before .before .before .before .before .before .args .shape .now)
+    (c .before .before .before .before .before .before .before .before .before .before .before .before .before .before .before .before .before .before .before .before .args .ends .now) _ _ (c .before .before .enter-view .ensures)
+    (c .before .before .before .before .before .before .before .before .before .before .before .before .before .before .before .before .before .before .before .before .args .union)
+    (c .before .before .before .before .before .before .before .before .before .before .before .before .before .before .before .before .before .before .joined-with .result)
+    (c .before .before .before .before .before .before .before .before .before .before .before .before .before .before .before .before .before .before .joined-with .ensures)
+    (c .before .before .before .before .before .before .before .before .before .before .before .before .before .least .ensures ∙ ap₂ min
+    (c .before .before .before .before .before .before .before .before .before .before .before .before .before .before .before .before .width-of .ensures)
+    (c .before .before .before .before .before .before .before .before .before .before .before .before .before .before .width-of2 .ensures))
+    (c .before .before .before .before .before .before .before .before .set-bound .ensures ∙ ap₂ (λ a b. min
+    (setBound (setOperation (c .before .before .before .before .before .before .before .before .before .before .before .before .before .before .before .before .before .before .before .before .args .union)) a b) 255)
+    (c .before .before .before .before .before .before .before .before .before .before .before .bound-of .ensures) (c .before .before .before .before .before .before .before .before .before .bound-of2 .ensures))
     (c .before .before .before .before .before .put-hulls .ensures)
 
 pub enter-set-spec : {M : Type 1} → statement M

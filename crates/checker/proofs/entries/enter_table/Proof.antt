@@ -26,7 +26,11 @@ same-length-2 : tie.Need-same-length-2
 same-length-2 c = search needs
 
 returns : tie.Need-returns
-returns c = frame-entered (c .before .before .before .before .before .before .before .before .before .before .before .before .args .frame .now) (c .before .before .before .before .before .before .before .before .before .before .before .before .args .r) (c .before .before .before .before .before .before .before .before .before .before .before .before .args .shape .now) (c .before .before .before .before .before .before .before .before .before .before .before .before .args .ends .now) _ _ (rw (c .before .before .before .before .before .before .before .before .before .byte-at .ensures, c .before .before .before .before .byte-at2 .ensures, c .before .before .before .byte-at3 .ensures) at (c .before .before .put-shape .ensures)) (rw (c .before .before .before .before .before .before .before .before .before .byte-at .ensures) at (c .before .before .before .before .before .before .before .put-columns .ensures))
+returns c = frame-entered (c .before .before .before .before .before .before .before .before .before .before .before .before .args .frame .now)
+    (c .before .before .before .before .before .before .before .before .before .before .before .before .args .r) (c .before .before .before .before .before .before .before .before .before .before .before .before .args .shape .now)
+    (c .before .before .before .before .before .before .before .before .before .before .before .before .args .ends .now) _ _
+    (rw (c .before .before .before .before .before .before .before .before .before .byte-at .ensures, c .before .before .before .before .byte-at2 .ensures, c .before .before .before .byte-at3 .ensures) at
+    (c .before .before .put-shape .ensures)) (rw (c .before .before .before .before .before .before .before .before .before .byte-at .ensures) at (c .before .before .before .before .before .before .before .put-columns .ensures))
 
 pub enter-table-spec : {M : Type 1} → statement M
 enter-table-spec =

@@ -34,8 +34,11 @@ loop-less c = search needs
 loop-again : tie.Need-loop-again Inv-loop μ-loop
 loop-again c = (
   omega arith,
-  ap length (c .before .put-range .ensures) ∙ put-length (c .before .before .before .before .before .loop .ends) (c .before .before .before .before .before .before .before .args .r) (c .before .before .before .before .before .loop .c) (c .before .before .column-in .result) ∙ c .before .before .before .before .before .loop .inv .1,
-  c .before .put-range .ensures ∙ puts-more (columnIn (c .before .before .before .before .before .before .before .args .frame .now)) (c .before .before .before .before .before .before .before .args .ends .now) (c .before .before .before .before .before .before .before .args .r) (c .before .before .before .before .before .loop .c) (c .before .before .before .before .before .loop .ends) (c .before .before .column-in .result) (c .before .before .before .before .before .loop .inv .2) (c .before .before .column-in .ensures),
+  ap length (c .before .put-range .ensures) ∙ put-length (c .before .before .before .before .before .loop .ends) (c .before .before .before .before .before .before .before .args .r) (c .before .before .before .before .before .loop .c)
+      (c .before .before .column-in .result) ∙ c .before .before .before .before .before .loop .inv .1,
+  c .before .put-range .ensures ∙ puts-more (columnIn (c .before .before .before .before .before .before .before .args .frame .now)) (c .before .before .before .before .before .before .before .args .ends .now)
+      (c .before .before .before .before .before .before .before .args .r) (c .before .before .before .before .before .loop .c) (c .before .before .before .before .before .loop .ends) (c .before .before .column-in .result)
+      (c .before .before .before .before .before .loop .inv .2) (c .before .before .column-in .ensures),
 )
 
 same-length : tie.Need-same-length Inv-loop μ-loop

@@ -42,8 +42,14 @@ loop-again : tie.Need-loop-again Inv-loop μ-loop
 unfolding hullAt
 loop-again c = (
   omega arith,
-  ap length (c .before .put-range .ensures) ∙ put-length (c .before .before .before .before .before .before .before .before .before .loop .ends) (c .before .before .before .before .before .before .before .before .before .before .before .args .r) (c .before .before .before .before .before .before .before .before .before .loop .c) (c .before .before .before .hull .result) ∙ c .before .before .before .before .before .before .before .before .before .loop .inv .1,
-  rw (c .before .put-range .ensures) (hulls-more (c .before .before .before .before .before .before .before .before .before .before .before .args .shape .now) (c .before .before .before .before .before .before .before .before .before .before .before .args .ends .now) (c .before .before .before .before .before .before .before .before .before .before .before .args .left) (c .before .before .before .before .before .before .before .before .before .before .before .args .right) (c .before .before .before .before .before .before .before .before .before .before .before .args .r) (c .before .before .before .before .before .before .before .before .before .loop .c) (c .before .before .before .before .before .before .before .before .before .loop .ends) (c .before .before .before .hull .result) (c .before .before .before .before .before .before .before .before .before .loop .inv .2)
+  ap length (c .before .put-range .ensures) ∙ put-length (c .before .before .before .before .before .before .before .before .before .loop .ends)
+      (c .before .before .before .before .before .before .before .before .before .before .before .args .r) (c .before .before .before .before .before .before .before .before .before .loop .c) (c .before .before .before .hull .result)
+      ∙ c .before .before .before .before .before .before .before .before .before .loop .inv .1,
+  rw (c .before .put-range .ensures) (hulls-more (c .before .before .before .before .before .before .before .before .before .before .before .args .shape .now)
+      (c .before .before .before .before .before .before .before .before .before .before .before .args .ends .now) (c .before .before .before .before .before .before .before .before .before .before .before .args .left)
+      (c .before .before .before .before .before .before .before .before .before .before .before .args .right) (c .before .before .before .before .before .before .before .before .before .before .before .args .r)
+      (c .before .before .before .before .before .before .before .before .before .loop .c) (c .before .before .before .before .before .before .before .before .before .loop .ends) (c .before .before .before .hull .result)
+      (c .before .before .before .before .before .before .before .before .before .loop .inv .2)
       (c .before .before .before .hull .ensures ∙ ap₂ hullOf (c .before .before .before .before .before .before .range-at .ensures) (c .before .before .before .before .range-at2 .ensures))),
 )
 

@@ -14,10 +14,12 @@ shared-slice-read-b : tie.Need-shared-slice-read-b
 shared-slice-read-b c = search needs
 
 returns-2 : tie.Need-returns-2
-returns-2 c = sym (byte-fits (c .before .before .before .args .frame .now) (c .before .before .before .args .at) (c .before .before .before .args .number) (under (c .before .before .before .args .n)) (c .before .before .if1 .left) (lt-ltb _ _ (c .if2 .taken)))
+returns-2 c = sym (byte-fits (c .before .before .before .args .frame .now) (c .before .before .before .args .at) (c .before .before .before .args .number) (under (c .before .before .before .args .n)) (c .before .before .if1 .left)
+    (lt-ltb _ _ (c .if2 .taken)))
 
 returns-3 : tie.Need-returns-3
-returns-3 c = sym (byte-wrong (c .before .before .before .args .frame .now) (c .before .before .before .args .at) (c .before .before .before .args .number) (under (c .before .before .before .args .n)) (c .before .before .if1 .left) (le-ltb _ _ (c .if2 .left)))
+returns-3 c = sym (byte-wrong (c .before .before .before .args .frame .now) (c .before .before .before .args .at) (c .before .before .before .args .number) (under (c .before .before .before .args .n)) (c .before .before .if1 .left)
+    (le-ltb _ _ (c .if2 .left)))
 
 pub below-spec : {M : Type 1} → statement M
 below-spec = tie.close (tie.spec returns shared-slice-read-b returns-2 returns-3)

@@ -14,13 +14,16 @@ shared-slice-read-b : tie.Need-shared-slice-read-b
 shared-slice-read-b c = search needs
 
 returns-2 : tie.Need-returns-2
-returns-2 c = sym (byte-wrong (c .before .before .before .args .frame .now) (c .before .before .before .args .at) (c .before .before .before .args .number) (within (c .before .before .before .args .lo) (c .before .before .before .args .hi)) (c .before .before .if1 .left) (rw (lt-leb _ _ (c .if2 .taken))))
+returns-2 c = sym (byte-wrong (c .before .before .before .args .frame .now) (c .before .before .before .args .at) (c .before .before .before .args .number)
+    (within (c .before .before .before .args .lo) (c .before .before .before .args .hi)) (c .before .before .if1 .left) (rw (lt-leb _ _ (c .if2 .taken))))
 
 returns-3 : tie.Need-returns-3
-returns-3 c = sym (byte-wrong (c .before .before .before .before .args .frame .now) (c .before .before .before .before .args .at) (c .before .before .before .before .args .number) (within (c .before .before .before .before .args .lo) (c .before .before .before .before .args .hi)) (c .before .before .before .if1 .left) (rw (le-leb _ _ (c .before .if2 .left), lt-leb _ _ (c .if3 .taken))))
+returns-3 c = sym (byte-wrong (c .before .before .before .before .args .frame .now) (c .before .before .before .before .args .at) (c .before .before .before .before .args .number)
+    (within (c .before .before .before .before .args .lo) (c .before .before .before .before .args .hi)) (c .before .before .before .if1 .left) (rw (le-leb _ _ (c .before .if2 .left), lt-leb _ _ (c .if3 .taken))))
 
 returns-4 : tie.Need-returns-4
-returns-4 c = sym (byte-fits (c .before .before .before .before .args .frame .now) (c .before .before .before .before .args .at) (c .before .before .before .before .args .number) (within (c .before .before .before .before .args .lo) (c .before .before .before .before .args .hi)) (c .before .before .before .if1 .left) (rw (le-leb _ _ (c .before .if2 .left), le-leb _ _ (c .if3 .left))))
+returns-4 c = sym (byte-fits (c .before .before .before .before .args .frame .now) (c .before .before .before .before .args .at) (c .before .before .before .before .args .number)
+    (within (c .before .before .before .before .args .lo) (c .before .before .before .before .args .hi)) (c .before .before .before .if1 .left) (rw (le-leb _ _ (c .before .if2 .left), le-leb _ _ (c .if3 .left))))
 
 pub between-spec : {M : Type 1} → statement M
 between-spec = tie.close (tie.spec returns shared-slice-read-b returns-2 returns-3 returns-4)

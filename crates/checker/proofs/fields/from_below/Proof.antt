@@ -14,13 +14,16 @@ shared-slice-read-i : tie.Need-shared-slice-read-i
 shared-slice-read-i c = search needs
 
 returns-2 : tie.Need-returns-2
-returns-2 c = sym (byte-wrong (c .before .before .before .args .frame .now) (c .before .before .before .args .at) (c .before .before .before .args .number) (fromUnder (c .before .before .before .args .lo) (c .before .before .before .args .n)) (c .before .before .if1 .left) (rw (lt-leb _ _ (c .if2 .taken))))
+returns-2 c = sym (byte-wrong (c .before .before .before .args .frame .now) (c .before .before .before .args .at) (c .before .before .before .args .number)
+    (fromUnder (c .before .before .before .args .lo) (c .before .before .before .args .n)) (c .before .before .if1 .left) (rw (lt-leb _ _ (c .if2 .taken))))
 
 returns-3 : tie.Need-returns-3
-returns-3 c = sym (byte-fits (c .before .before .before .before .args .frame .now) (c .before .before .before .before .args .at) (c .before .before .before .before .args .number) (fromUnder (c .before .before .before .before .args .lo) (c .before .before .before .before .args .n)) (c .before .before .before .if1 .left) (rw (le-leb _ _ (c .before .if2 .left), lt-ltb _ _ (c .if3 .taken))))
+returns-3 c = sym (byte-fits (c .before .before .before .before .args .frame .now) (c .before .before .before .before .args .at) (c .before .before .before .before .args .number)
+    (fromUnder (c .before .before .before .before .args .lo) (c .before .before .before .before .args .n)) (c .before .before .before .if1 .left) (rw (le-leb _ _ (c .before .if2 .left), lt-ltb _ _ (c .if3 .taken))))
 
 returns-4 : tie.Need-returns-4
-returns-4 c = sym (byte-wrong (c .before .before .before .before .args .frame .now) (c .before .before .before .before .args .at) (c .before .before .before .before .args .number) (fromUnder (c .before .before .before .before .args .lo) (c .before .before .before .before .args .n)) (c .before .before .before .if1 .left) (rw (le-leb _ _ (c .before .if2 .left), le-ltb _ _ (c .if3 .left))))
+returns-4 c = sym (byte-wrong (c .before .before .before .before .args .frame .now) (c .before .before .before .before .args .at) (c .before .before .before .before .args .number)
+    (fromUnder (c .before .before .before .before .args .lo) (c .before .before .before .before .args .n)) (c .before .before .before .if1 .left) (rw (le-leb _ _ (c .before .if2 .left), le-ltb _ _ (c .if3 .left))))
 
 pub from-below-spec : {M : Type 1} → statement M
 from-below-spec = tie.close (tie.spec returns shared-slice-read-i returns-2 returns-3 returns-4)

@@ -28,11 +28,13 @@ compare-requires c κs = search needs
 
 returns-2 : tie.Need-returns-2
 returns-2 c = ap (λ t. cond t 0 5) (sym (c .if2 .taken))
-    ∙ column-answer (c .before .before .before .before .before .before .args .frame .now) (c .before .before .before .before .before .before .args .at) _ _ _ (c .before .before .before .before .if1 .left) (back w32 _ (c .before .before .before .number-at .ok) ∙ c .before .before .before .number-at .ensures) (back w32 _ (c .before .before .number-at2 .ok) ∙ c .before .before .number-at2 .ensures) (c .before .compare .ensures)
+    ∙ column-answer (c .before .before .before .before .before .before .args .frame .now) (c .before .before .before .before .before .before .args .at) _ _ _ (c .before .before .before .before .if1 .left)
+    (back w32 _ (c .before .before .before .number-at .ok) ∙ c .before .before .before .number-at .ensures) (back w32 _ (c .before .before .number-at2 .ok) ∙ c .before .before .number-at2 .ensures) (c .before .compare .ensures)
 
 returns-3 : tie.Need-returns-3
 returns-3 c = ap (λ t. cond t 0 5) (sym (c .if2 .left))
-    ∙ column-answer (c .before .before .before .before .before .before .args .frame .now) (c .before .before .before .before .before .before .args .at) _ _ _ (c .before .before .before .before .if1 .left) (back w32 _ (c .before .before .before .number-at .ok) ∙ c .before .before .before .number-at .ensures) (back w32 _ (c .before .before .number-at2 .ok) ∙ c .before .before .number-at2 .ensures) (c .before .compare .ensures)
+    ∙ column-answer (c .before .before .before .before .before .before .args .frame .now) (c .before .before .before .before .before .before .args .at) _ _ _ (c .before .before .before .before .if1 .left)
+    (back w32 _ (c .before .before .before .number-at .ok) ∙ c .before .before .before .number-at .ensures) (back w32 _ (c .before .before .number-at2 .ok) ∙ c .before .before .number-at2 .ensures) (c .before .compare .ensures)
 
 pub column-fault-spec : {M : Type 1} → statement M
 column-fault-spec =

@@ -23,7 +23,8 @@ widen16-requires : tie.Need-widen16-requires
 widen16-requires c κs = search needs
 
 returns : tie.Need-returns
-returns c = back w32 _ (c .widen16 .ok) ∙ c .widen16 .ensures ∙ back w16 _ (c .before .from-bytes .ok) ∙ c .before .from-bytes .ensures ∙ ap₂ (λ h l. bytesZ h l) (c .before .before .before .byte-at .ensures) (c .before .before .byte-at2 .ensures)
+returns c = back w32 _ (c .widen16 .ok) ∙ c .widen16 .ensures ∙ back w16 _ (c .before .from-bytes .ok) ∙ c .before .from-bytes .ensures ∙ ap₂ (λ h l. bytesZ h l) (c .before .before .before .byte-at .ensures)
+    (c .before .before .byte-at2 .ensures)
 
 pub number-at-spec : {M : Type 1} → statement M
 number-at-spec =

@@ -19,7 +19,8 @@ first-of-requires : tie.Need-first-of-requires
 first-of-requires c κs = search needs
 
 returns : tie.Need-returns
-returns c = c .first-of .ensures ∙ ap₂ first (c .before .before .below .ensures) (c .before .below2 .ensures) ∙ sym (pair-law (c .before .before .before .before .args .frame .now) (c .before .before .before .before .args .at) (c .before .before .before .before .args .c) (c .before .before .before .before .args .p))
+returns c = c .first-of .ensures ∙ ap₂ first (c .before .before .below .ensures) (c .before .below2 .ensures) ∙ sym
+    (pair-law (c .before .before .before .before .args .frame .now) (c .before .before .before .before .args .at) (c .before .before .before .before .args .c) (c .before .before .before .before .args .p))
 
 pub pair-fault-spec : {M : Type 1} → statement M
 pair-fault-spec =

@@ -20,7 +20,8 @@ column-pairing-requires : tie.Need-column-pairing-requires Inv-loop μ-loop
 column-pairing-requires c κs = tt
 
 returns : tie.Need-returns Inv-loop μ-loop
-returns c = sym (pairing-stop (c .before .before .before .before .before .args .frame .now) (c .before .before .before .before .before .args .n) (c .before .before .before .loop .i) (c .before .before .before .loop .left) (c .before .before .before .loop .rest) _ (c .before .before .loop-test .taken) (c .before .column-pairing .ensures) (c .if1 .taken)) ∙ c .before .before .before .loop .inv .0
+returns c = sym (pairing-stop (c .before .before .before .before .before .args .frame .now) (c .before .before .before .before .before .args .n) (c .before .before .before .loop .i) (c .before .before .before .loop .left)
+    (c .before .before .before .loop .rest) _ (c .before .before .loop-test .taken) (c .before .column-pairing .ensures) (c .if1 .taken)) ∙ c .before .before .before .loop .inv .0
 
 add-i : tie.Need-add-i Inv-loop μ-loop
 add-i c = omega arith
@@ -32,7 +33,11 @@ loop-less : tie.Need-loop-less Inv-loop μ-loop
 loop-less c = omega arith
 
 loop-again : tie.Need-loop-again Inv-loop μ-loop
-loop-again c = (sym (pairing-go (c .before .before .before .before .before .args .frame .now) (c .before .before .before .before .before .args .n) (c .before .before .before .loop .i) (c .before .before .before .loop .left) (c .before .before .before .loop .rest) _ (c .before .before .loop-test .taken) (c .before .column-pairing .ensures) (c .if1 .left)) ∙ c .before .before .before .loop .inv .0, omega arith)
+loop-again c = (
+  sym (pairing-go (c .before .before .before .before .before .args .frame .now) (c .before .before .before .before .before .args .n) (c .before .before .before .loop .i) (c .before .before .before .loop .left)
+      (c .before .before .before .loop .rest) _ (c .before .before .loop-test .taken) (c .before .column-pairing .ensures) (c .if1 .left)) ∙ c .before .before .before .loop .inv .0,
+  omega arith,
+)
 
 returns-2 : tie.Need-returns-2 Inv-loop μ-loop
 returns-2 c = sym (pairing-end (c .before .before .before .args .frame .now) (c .before .before .before .args .n) (c .before .loop .i) (c .before .loop .left) (c .before .loop .rest) (c .loop-test .left)) ∙ c .before .loop .inv .0

@@ -21,7 +21,8 @@ pair-fault-requires c κs = omega arith
 
 returns : tie.Need-returns Inv-loop μ-loop
 unfolding pairsFault
-returns c = sym (times-stop (sized-pair (c .before .before .before .before .before .args .c) (c .before .before .before .before .before .args .p)) (c .before .before .before .before .before .args .frame .now) (c .before .before .before .loop .at) (c .before .before .before .loop .left) _ (c .before .before .loop-test .taken) (c .before .pair-fault .ensures) (c .if1 .taken)) ∙ c .before .before .before .loop .inv .0
+returns c = sym (times-stop (sized-pair (c .before .before .before .before .before .args .c) (c .before .before .before .before .before .args .p)) (c .before .before .before .before .before .args .frame .now)
+    (c .before .before .before .loop .at) (c .before .before .before .loop .left) _ (c .before .before .loop-test .taken) (c .before .pair-fault .ensures) (c .if1 .taken)) ∙ c .before .before .before .loop .inv .0
 
 add-at : tie.Need-add-at Inv-loop μ-loop
 add-at c = omega arith
@@ -34,11 +35,16 @@ loop-less c = omega arith
 
 loop-again : tie.Need-loop-again Inv-loop μ-loop
 unfolding pairsFault
-loop-again c = (sym (times-go (sized-pair (c .before .before .before .before .before .args .c) (c .before .before .before .before .before .args .p)) (c .before .before .before .before .before .args .frame .now) (c .before .before .before .loop .at) (c .before .before .before .loop .left) _ (c .before .before .loop-test .taken) (c .before .pair-fault .ensures) (c .if1 .left)) ∙ c .before .before .before .loop .inv .0, omega arith)
+loop-again c = (
+  sym (times-go (sized-pair (c .before .before .before .before .before .args .c) (c .before .before .before .before .before .args .p)) (c .before .before .before .before .before .args .frame .now)
+      (c .before .before .before .loop .at) (c .before .before .before .loop .left) _ (c .before .before .loop-test .taken) (c .before .pair-fault .ensures) (c .if1 .left)) ∙ c .before .before .before .loop .inv .0,
+  omega arith,
+)
 
 returns-2 : tie.Need-returns-2 Inv-loop μ-loop
 unfolding pairsFault
-returns-2 c = sym (times-end (sized-pair (c .before .before .before .args .c) (c .before .before .before .args .p)) (c .before .before .before .args .frame .now) (c .before .loop .at) (c .before .loop .left) (c .loop-test .left)) ∙ c .before .loop .inv .0
+returns-2 c = sym (times-end (sized-pair (c .before .before .before .args .c) (c .before .before .before .args .p)) (c .before .before .before .args .frame .now) (c .before .loop .at) (c .before .loop .left) (c .loop-test .left))
+    ∙ c .before .loop .inv .0
 
 pub pairs-fault-spec : {M : Type 1} → statement M
 pairs-fault-spec =

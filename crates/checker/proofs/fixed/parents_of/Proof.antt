@@ -40,7 +40,13 @@ loop-less : tie.Need-loop-less Inv-loop μ-loop
 loop-less c = omega arith
 
 loop-again : tie.Need-loop-again Inv-loop μ-loop
-loop-again c = (parents-more (c .before .before .before .before .before .args .frame .now) (c .before .before .before .before .before .args .i) (c .before .before .before .loop .at) (c .before .before .before .loop .left) _ _ _ (c .before .before .loop-test .taken) (c .one-if .ensures .0 ∙ ap (λ b. tick (eqb b (c .before .before .before .before .before .args .i)) 0) (c .before .byte-at .ensures)) (c .before .before .before .loop .inv .0), omega arith, omega arith)
+loop-again c = (
+  parents-more (c .before .before .before .before .before .args .frame .now) (c .before .before .before .before .before .args .i) (c .before .before .before .loop .at) (c .before .before .before .loop .left) _ _ _
+      (c .before .before .loop-test .taken) (c .one-if .ensures .0 ∙ ap (λ b. tick (eqb b (c .before .before .before .before .before .args .i)) 0) (c .before .byte-at .ensures))
+      (c .before .before .before .loop .inv .0),
+  omega arith,
+  omega arith,
+)
 
 returns : tie.Need-returns Inv-loop μ-loop
 returns c = omega (arith, parents-end (c .before .before .before .args .frame .now) (c .before .before .before .args .i) (c .before .loop .at) (c .before .loop .left) (c .loop-test .left))

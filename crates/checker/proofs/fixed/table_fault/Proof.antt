@@ -49,7 +49,8 @@ first-of-requires-4 : tie.Need-first-of-requires-4
 first-of-requires-4 c κs = search needs
 
 returns : tie.Need-returns
-returns c = table-answer (c .before .before .before .before .before .before .before .before .before .before .before .before .args .frame .now) _ _ (c .before .before .before .before .before .before .before .before .before .before .byte-at .ensures) (c .before .before .before .before .before .before .before .masks-of .ensures)
+returns c = table-answer (c .before .before .before .before .before .before .before .before .before .before .before .before .args .frame .now) _ _
+    (c .before .before .before .before .before .before .before .before .before .before .byte-at .ensures) (c .before .before .before .before .before .before .before .masks-of .ensures)
     (c .first-of4 .ensures ∙ ap₂ first (c .before .before .before .before .before .before .before .before .before .between .ensures)
     (c .before .first-of3 .ensures ∙ ap₂ first (c .before .before .before .before .before .before .before .before .between2 .ensures)
     (c .before .before .first-of2 .ensures ∙ ap₂ first (c .before .before .before .before .before .before .below .ensures)

@@ -29,7 +29,8 @@ same-length-3 : tie.Need-same-length-3
 same-length-3 c = search needs
 
 returns-2 : tie.Need-returns-2
-returns-2 c = grouped-done (c .before .before .before .before .before .before .grouped-rules .result) (c .before .before .before .before .before .before .before .before .before .before .grouped-bytes .ensures) (c .before .before .before .before .before .before .before .before .before .if1 .left) (c .before .before .before .before .before .before .grouped-rules .ensures) (c .before .before .before .enter-view .ensures) (c .with-view .ensures)
+returns-2 c = grouped-done (c .before .before .before .before .before .before .grouped-rules .result) (c .before .before .before .before .before .before .before .before .before .before .grouped-bytes .ensures)
+    (c .before .before .before .before .before .before .before .before .before .if1 .left) (c .before .before .before .before .before .before .grouped-rules .ensures) (c .before .before .before .enter-view .ensures) (c .with-view .ensures)
 
 pub grouped-step-spec : {M : Type 1} → statement M
 grouped-step-spec =

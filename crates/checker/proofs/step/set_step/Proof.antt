@@ -32,7 +32,9 @@ same-length-3 : tie.Need-same-length-3
 same-length-3 c = search needs
 
 returns-2 : tie.Need-returns-2
-returns-2 c = set-done _ (c .before .before .before .before .before .before .before .before .before .before .set-fault .ensures) (c .before .before .before .before .before .before .before .before .before .if1 .left) (c .before .before .before .before .before .before .before .before .byte-at .ensures) (c .before .before .before .before .before .before .before .byte-at2 .ensures) (c .before .before .before .before .enter-set .ensures) (c .with-view .ensures)
+returns-2 c = set-done _ (c .before .before .before .before .before .before .before .before .before .before .set-fault .ensures) (c .before .before .before .before .before .before .before .before .before .if1 .left)
+    (c .before .before .before .before .before .before .before .before .byte-at .ensures) (c .before .before .before .before .before .before .before .byte-at2 .ensures) (c .before .before .before .before .enter-set .ensures)
+    (c .with-view .ensures)
 
 pub set-step-spec : {M : Type 1} → statement M
 set-step-spec =

@@ -23,7 +23,8 @@ same-length-2 : tie.Need-same-length-2
 same-length-2 c = search needs
 
 returns-2 : tie.Need-returns-2
-returns-2 c = table-done (c .before .before .before .before .before .before .before .before .table-fault .ensures) (c .before .before .before .before .before .before .before .if1 .left) (c .before .before .before .before .enter-table .ensures) (c .with-table .ensures)
+returns-2 c = table-done (c .before .before .before .before .before .before .before .before .table-fault .ensures) (c .before .before .before .before .before .before .before .if1 .left)
+    (c .before .before .before .before .enter-table .ensures) (c .with-table .ensures)
 
 pub table-step-spec : {M : Type 1} → statement M
 table-step-spec =

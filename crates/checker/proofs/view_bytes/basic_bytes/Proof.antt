@@ -29,7 +29,9 @@ array-share-prefix-cols : tie.Need-array-share-prefix-cols
 array-share-prefix-cols c = search needs
 
 slice-aggregate-condition-select : tie.Need-slice-aggregate-condition-select
-slice-aggregate-condition-select c = lent-length (c .before .before .before .before .before .before .before .before .args .frame .now) (c .before .before .before .before .before .before .before .before .args .shape .now) (c .before .before .before .before .before .before .before .before .args .count) (c .before .before .widths .ensures) (c .before .before .before .before .before .byte-at .ensures) (c .before .before .before .before .wide .ensures) (c .before .items .ensures)
+slice-aggregate-condition-select c = lent-length (c .before .before .before .before .before .before .before .before .args .frame .now) (c .before .before .before .before .before .before .before .before .args .shape .now)
+    (c .before .before .before .before .before .before .before .before .args .count) (c .before .before .widths .ensures) (c .before .before .before .before .before .byte-at .ensures) (c .before .before .before .before .wide .ensures)
+    (c .before .items .ensures)
 
 condition-select-requires : tie.Need-condition-select-requires
 condition-select-requires c κs = search needs
@@ -47,7 +49,12 @@ first-of-requires-2 : tie.Need-first-of-requires-2
 first-of-requires-2 c κs = search needs
 
 returns : tie.Need-returns
-returns c = basic-bytes (c .before .before .before .before .before .before .before .before .before .before .before .before .before .args .frame .now) (c .before .before .before .before .before .before .before .before .before .before .before .before .before .args .shape .now) (c .before .before .before .before .before .before .before .before .before .before .before .before .before .args .count) (c .before .before .before .before .before .before .before .widths .ensures) (c .before .before .before .before .before .before .before .before .before .before .byte-at .ensures) (c .before .before .before .before .before .before .before .before .before .wide .ensures) (c .before .before .before .before .before .before .items .ensures) (c .before .from-list .ensures) (c .before .before .before .before .before .before .before .before .byte-at2 .ensures) (c .before .before .before .between .ensures) (c .before .before .before .before .condition-select .ensures) (c .before .before .first-of .ensures) (c .first-of2 .ensures)
+returns c = basic-bytes (c .before .before .before .before .before .before .before .before .before .before .before .before .before .args .frame .now)
+    (c .before .before .before .before .before .before .before .before .before .before .before .before .before .args .shape .now)
+    (c .before .before .before .before .before .before .before .before .before .before .before .before .before .args .count) (c .before .before .before .before .before .before .before .widths .ensures)
+    (c .before .before .before .before .before .before .before .before .before .before .byte-at .ensures) (c .before .before .before .before .before .before .before .before .before .wide .ensures)
+    (c .before .before .before .before .before .before .items .ensures) (c .before .from-list .ensures) (c .before .before .before .before .before .before .before .before .byte-at2 .ensures) (c .before .before .before .between .ensures)
+    (c .before .before .before .before .condition-select .ensures) (c .before .before .first-of .ensures) (c .first-of2 .ensures)
 
 pub basic-bytes-spec : {M : Type 1} → statement M
 basic-bytes-spec =

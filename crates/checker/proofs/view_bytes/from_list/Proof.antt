@@ -17,7 +17,8 @@ first-of-requires : tie.Need-first-of-requires
 first-of-requires c κs = search needs
 
 returns : tie.Need-returns
-returns c = froms-are (c .before .before .before .before .before .args .frame .now) (c .before .before .before .before .before .args .count) (c .before .before .before .byte-at .ensures) (c .before .before .between .ensures) (c .before .relations .ensures) (c .first-of .ensures)
+returns c = froms-are (c .before .before .before .before .before .args .frame .now) (c .before .before .before .before .before .args .count) (c .before .before .before .byte-at .ensures) (c .before .before .between .ensures)
+    (c .before .relations .ensures) (c .first-of .ensures)
 
 pub from-list-spec : {M : Type 1} → statement M
 from-list-spec =

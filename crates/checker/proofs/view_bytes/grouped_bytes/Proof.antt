@@ -38,7 +38,9 @@ array-share-prefix-cols : tie.Need-array-share-prefix-cols
 array-share-prefix-cols c = search needs
 
 slice-aggregate-where-groups : tie.Need-slice-aggregate-where-groups
-slice-aggregate-where-groups c = lent-length (c .before .before .before .before .before .before .before .before .before .args .frame .now) (c .before .before .before .before .before .before .before .before .before .args .shape .now) (c .before .before .before .before .before .before .before .before .before .args .count) (c .before .before .widths .ensures) (c .before .before .before .before .before .before .byte-at .ensures) (c .before .before .before .before .before .wide .ensures) (c .before .items .ensures)
+slice-aggregate-where-groups c = lent-length (c .before .before .before .before .before .before .before .before .before .args .frame .now) (c .before .before .before .before .before .before .before .before .before .args .shape .now)
+    (c .before .before .before .before .before .before .before .before .before .args .count) (c .before .before .widths .ensures) (c .before .before .before .before .before .before .byte-at .ensures)
+    (c .before .before .before .before .before .wide .ensures) (c .before .items .ensures)
 
 where-groups-requires : tie.Need-where-groups-requires
 where-groups-requires c κs = search needs
@@ -65,7 +67,14 @@ first-of-requires-3 : tie.Need-first-of-requires-3
 first-of-requires-3 c κs = search needs
 
 returns : tie.Need-returns
-returns c = grouped-bytes (c .before .before .before .before .before .before .before .before .before .before .before .before .before .before .before .before .args .frame .now) (c .before .before .before .before .before .before .before .before .before .before .before .before .before .before .before .before .args .shape .now) (c .before .before .before .before .before .before .before .before .before .before .before .before .before .before .before .before .args .count) (c .before .before .before .before .before .before .before .before .before .widths .ensures) (c .before .before .before .before .before .before .before .before .before .before .before .before .before .byte-at .ensures) (c .before .before .before .before .before .before .before .before .before .before .before .before .wide .ensures) (c .before .before .before .before .before .before .before .before .items .ensures) (c .before .from-list .ensures) (c .before .before .before .before .before .before .before .before .before .before .before .byte-at2 .ensures) (c .before .before .before .before .before .before .before .before .before .before .byte-at3 .ensures) (c .before .before .before .between2 .ensures) (c .before .before .before .before .before .between .ensures) (c .before .before .before .before .before .before .where-groups .ensures) (c .before .before .before .before .first-of .ensures) (c .before .before .first-of2 .ensures) (c .first-of3 .ensures)
+returns c = grouped-bytes (c .before .before .before .before .before .before .before .before .before .before .before .before .before .before .before .before .args .frame .now)
+    (c .before .before .before .before .before .before .before .before .before .before .before .before .before .before .before .before .args .shape .now)
+    (c .before .before .before .before .before .before .before .before .before .before .before .before .before .before .before .before .args .count)
+    (c .before .before .before .before .before .before .before .before .before .widths .ensures) (c .before .before .before .before .before .before .before .before .before .before .before .before .before .byte-at .ensures)
+    (c .before .before .before .before .before .before .before .before .before .before .before .before .wide .ensures) (c .before .before .before .before .before .before .before .before .items .ensures) (c .before .from-list .ensures)
+    (c .before .before .before .before .before .before .before .before .before .before .before .byte-at2 .ensures) (c .before .before .before .before .before .before .before .before .before .before .byte-at3 .ensures)
+    (c .before .before .before .between2 .ensures) (c .before .before .before .before .before .between .ensures) (c .before .before .before .before .before .before .where-groups .ensures)
+    (c .before .before .before .before .first-of .ensures) (c .before .before .first-of2 .ensures) (c .first-of3 .ensures)
 
 pub grouped-bytes-spec : {M : Type 1} → statement M
 grouped-bytes-spec =

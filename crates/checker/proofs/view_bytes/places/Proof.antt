@@ -26,7 +26,8 @@ enum-known-number : tie.Need-enum-known-number Inv-loop μ-loop
 enum-known-number c = search needs
 
 returns : tie.Need-returns Inv-loop μ-loop
-returns c = sym (repeat-stops _ (place-field (c .before .before .before .before .before .before .before .before .args .cols .now)) _ _ (c .before .before .before .before .before .loop .inv) (omega arith) (c .before .before .before .place .ensures ∙ place-skips _ (c .before .before .before .before .before .before .before .before .args .cols .now) _) (c .before .number .given .1))
+returns c = sym (repeat-stops _ (place-field (c .before .before .before .before .before .before .before .before .args .cols .now)) _ _ (c .before .before .before .before .before .loop .inv) (omega arith)
+    (c .before .before .before .place .ensures ∙ place-skips _ (c .before .before .before .before .before .before .before .before .args .cols .now) _) (c .before .number .given .1))
 
 sub-left : tie.Need-sub-left Inv-loop μ-loop
 sub-left c = omega arith
@@ -35,7 +36,8 @@ loop-less : tie.Need-loop-less Inv-loop μ-loop
 loop-less c = omega arith
 
 loop-again : tie.Need-loop-again Inv-loop μ-loop
-loop-again c = repeat-again _ (place-field (c .before .before .before .before .before .before .before .before .args .cols .now)) _ _ (c .before .before .before .before .before .loop .inv) (omega arith) (c .before .before .before .place .ensures ∙ place-skips _ (c .before .before .before .before .before .before .before .before .args .cols .now) _) (c .before .end .given .1)
+loop-again c = repeat-again _ (place-field (c .before .before .before .before .before .before .before .before .args .cols .now)) _ _ (c .before .before .before .before .before .loop .inv) (omega arith)
+    (c .before .before .before .place .ensures ∙ place-skips _ (c .before .before .before .before .before .before .before .before .args .cols .now) _) (c .before .end .given .1)
 
 returns-2 : tie.Need-returns-2 Inv-loop μ-loop
 returns-2 c = sym (repeat-ends _ (place-field (c .before .before .before .before .args .cols .now)) _ _ (c .before .loop .inv) (omega arith))

@@ -17,7 +17,8 @@ enum-known-number : tie.Need-enum-known-number
 enum-known-number c = search needs
 
 returns : tie.Need-returns
-returns c = select-next _ (c .before .before .before .before .before .before .before .args .cols .now) _ _ (c .before .before .before .before .expressions .ensures) (c .before .before .before .before .before .before .before .pre) (c .before .before .next .given .1) (c .ends-at .ensures)
+returns c = select-next _ (c .before .before .before .before .before .before .before .args .cols .now) _ _ (c .before .before .before .before .expressions .ensures) (c .before .before .before .before .before .before .before .pre)
+    (c .before .before .next .given .1) (c .ends-at .ensures)
 
 returns-2 : tie.Need-returns-2
 returns-2 c = select-stop _ (c .before .before .before .before .before .before .args .cols .now) _ _ (c .before .before .before .expressions .ensures) (c .before .number .given .1)

@@ -26,10 +26,12 @@ enum-known-number-2 : tie.Need-enum-known-number-2
 enum-known-number-2 c = search needs
 
 returns : tie.Need-returns
-returns c = groups-next _ (c .before .before .before .before .before .before .before .before .before .before .before .args .cols .now) _ (c .before .before .before .before .before .before .before .before .condition .ensures) _ _ (c .before .before .before .before .before .before .next .given .1) (c .before .before .before .before .places .ensures) (c .before .before .having .given .1) (c .condition-select .ensures)
+returns c = groups-next _ (c .before .before .before .before .before .before .before .before .before .before .before .args .cols .now) _ (c .before .before .before .before .before .before .before .before .condition .ensures) _ _
+    (c .before .before .before .before .before .before .next .given .1) (c .before .before .before .before .places .ensures) (c .before .before .having .given .1) (c .condition-select .ensures)
 
 returns-2 : tie.Need-returns-2
-returns-2 c = groups-stop _ (c .before .before .before .before .before .before .before .before .before .before .args .cols .now) _ (c .before .before .before .before .before .before .before .condition .ensures) _ _ (c .before .before .before .before .before .next .given .1) (c .before .before .before .places .ensures) (c .before .number .given .1)
+returns-2 c = groups-stop _ (c .before .before .before .before .before .before .before .before .before .before .args .cols .now) _ (c .before .before .before .before .before .before .before .condition .ensures) _ _
+    (c .before .before .before .before .before .next .given .1) (c .before .before .before .places .ensures) (c .before .number .given .1)
 
 returns-3 : tie.Need-returns-3
 returns-3 c = where-stop _ _ _ (c .before .before .before .condition .ensures) _ _ (c .before .number2 .given .1)

@@ -10,8 +10,8 @@ from-list-requires c κs = search needs
 parts-after-requires : tie.Need-parts-after-requires
 parts-after-requires c κs = search needs
 
-product-bound-requires : tie.Need-product-bound-requires
-product-bound-requires c κs = search needs
+product-requires : tie.Need-product-requires
+product-requires c κs = search needs
 
 plain-requires : tie.Need-plain-requires
 plain-requires c κs = search needs
@@ -44,8 +44,16 @@ same-length : tie.Need-same-length
 same-length c = search needs
 
 returns : tie.Need-returns
-returns c = grouped-rules (c .before .before .before .before .before .before .before .before .before .before .before .before .before .before .before .before .args .frame .now) (c .before .before .before .before .before .before .before .before .before .before .before .before .before .before .before .before .args .r) (c .before .before .before .before .before .before .before .before .before .before .before .before .before .before .before .before .args .shape .now) (c .before .before .before .before .before .before .before .before .before .before .before .before .before .before .before .before .args .ends .now) _ _ _ (c .before .before .before .before .before .before .before .before .before .before .before .before .parts-after .result) (c .before .before .before .before .before .before .before .before .before .before .before .product-bound .result) (c .before .before .before .before .before .before .before .before .condition .result) (c .before .before .before .before .before .before .before .before .before .plain .result)
-    (c .before .before .before .before .before .before .before .before .before .before .before .before .before .from-list .ensures) (c .before .before .before .before .before .before .before .before .before .before .before .product-bound .ensures) (c .before .before .before .before .before .before .before .before .before .plain .ensures) (c .before .before .before .before .before .before .before .before .condition .ensures) (c .before .before .before .before .before .before .before .before .before .before .before .before .parts-after .ensures) (c .before .before .before .before .before .before .before .inside .result) (c .before .before .before .before .condition2 .result) (c .before .before .before .both .result)
+returns c = grouped-rules (c .before .before .before .before .before .before .before .before .before .before .before .before .before .before .before .before .args .frame .now)
+    (c .before .before .before .before .before .before .before .before .before .before .before .before .before .before .before .before .args .r)
+    (c .before .before .before .before .before .before .before .before .before .before .before .before .before .before .before .before .args .shape .now)
+    (c .before .before .before .before .before .before .before .before .before .before .before .before .before .before .before .before .args .ends .now) _ _ _
+    (c .before .before .before .before .before .before .before .before .before .before .before .before .parts-after .result) (c .before .before .before .before .before .before .before .before .before .before .before .product .result)
+    (c .before .before .before .before .before .before .before .before .condition .result) (c .before .before .before .before .before .before .before .before .before .plain .result)
+    (c .before .before .before .before .before .before .before .before .before .before .before .before .before .from-list .ensures)
+    (c .before .before .before .before .before .before .before .before .before .before .before .product .ensures) (c .before .before .before .before .before .before .before .before .before .plain .ensures)
+    (c .before .before .before .before .before .before .before .before .condition .ensures) (c .before .before .before .before .before .before .before .before .before .before .before .before .parts-after .ensures)
+    (c .before .before .before .before .before .before .before .inside .result) (c .before .before .before .before .condition2 .result) (c .before .before .before .both .result)
     (c .before .before .before .both .ensures) (c .before .before .before .before .before .before .before .inside .ensures .1) (c .before .before .before .before .condition2 .ensures) (c .before .tail .ensures)
 
 pub grouped-rules-spec : {M : Type 1} → statement M
@@ -54,7 +62,7 @@ grouped-rules-spec =
     (tie.spec
     from-list-requires
     parts-after-requires
-    product-bound-requires
+    product-requires
     plain-requires
     condition-requires
     inside-requires
