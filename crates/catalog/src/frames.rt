@@ -73,7 +73,7 @@ pub fn from_list(frame: &[u8]) -> &[u8]
 }
 
 // The relations that a view's frame names.
-// Refused: the kind with the operands; the first operand alone.
+// Refused: the kind for an operand; the first operand alone.
 pub fn names(frame: &[u8]) -> &[u8]
     ensures { λ r. ⌜ now r ≡ namesIn (now (frame .entry)) ⌝ }
 {

@@ -67,7 +67,34 @@ module _ (t : ℕ) where
   condition-uses = (testing-reads.Asked, testing-reads.Learnt, condition-below t, condition.Post, two-below t, two.Post, is-within-reads.Asked, is-within-reads.Learnt)
 
   abbrev expression-uses : expression-lts.Claims
-  expression-uses = (sizing-reads.Asked, sizing-reads.Learnt, constant-reads.Asked, constant-reads.Learnt, column-reads.Asked, column-reads.Learnt, expression-below t, expression.Post, step-reads.Asked, step-reads.Learnt, rounded-reads.Asked, rounded-reads.Learnt, condition-below t, condition.Post, two-below t, two.Post, chosen-reads.Asked, chosen-reads.Learnt, inside-reads.Asked, inside-reads.Learnt, byte-at-reads.Asked, byte-at-reads.Learnt, aggregated-reads.Asked, aggregated-reads.Learnt, operated-reads.Asked, operated-reads.Learnt)
+  expression-uses = (
+    sizing-reads.Asked,
+    sizing-reads.Learnt,
+    constant-reads.Asked,
+    constant-reads.Learnt,
+    column-reads.Asked,
+    column-reads.Learnt,
+    expression-below t,
+    expression.Post,
+    step-reads.Asked,
+    step-reads.Learnt,
+    rounded-reads.Asked,
+    rounded-reads.Learnt,
+    condition-below t,
+    condition.Post,
+    two-below t,
+    two.Post,
+    chosen-reads.Asked,
+    chosen-reads.Learnt,
+    inside-reads.Asked,
+    inside-reads.Learnt,
+    byte-at-reads.Asked,
+    byte-at-reads.Learnt,
+    aggregated-reads.Asked,
+    aggregated-reads.Learnt,
+    operated-reads.Asked,
+    operated-reads.Learnt,
+  )
 
   abbrev two-uses : two-lts.Claims
   two-uses = (expression-below t, expression.Post)

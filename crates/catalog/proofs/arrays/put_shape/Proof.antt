@@ -33,8 +33,12 @@ same-length c = search needs
 
 returns : tie.Need-returns
 unfolding putShape
-returns c = rw
-    (c .before .before .put-byte4 .ensures, c .before .before .before .before .before .before .put-byte3 .ensures, c .before .before .before .before .before .before .before .before .before .before .put-byte2 .ensures, c .before .before .before .before .before .before .before .before .before .before .before .before .before .before .put-byte .ensures)
+returns c = rw (
+  c .before .before .put-byte4 .ensures,
+  c .before .before .before .before .before .before .put-byte3 .ensures,
+  c .before .before .before .before .before .before .before .before .before .before .put-byte2 .ensures,
+  c .before .before .before .before .before .before .before .before .before .before .before .before .before .before .put-byte .ensures,
+)
 
 pub put-shape-spec : {M : Type 1} → statement M
 put-shape-spec =
