@@ -14,7 +14,7 @@ use Rattle.value.proofs.Places.{byte-here}
 use Rattle.meaning.specs.Lists.{all, any}
 use Rattle.meaning.specs.Syntax.{Row, Pair, ForeignKey, File, Database}
 use Rattle.meaning.specs.Evaluation.{missing}
-use Rattle.meaning.specs.Valid.{agrees, foreignKeyHolds}
+use Rattle.meaning.specs.Decided.{agrees, foreignKeyHolds}
 use Rattle.meaning.proofs.Elements.{all-at}
 use Rattle.language.specs.Legal.{LegalKey, LegalPair, tableAt}
 use Rattle.language.specs.Written.{keyBytes, pairsBytes}

@@ -15,8 +15,8 @@ use Rattle.meaning.specs.Lists.{Each, isPos, any}
 use Rattle.meaning.specs.Syntax.{Table, Goal, File, Database}
 use Rattle.meaning.specs.Rows.{rows}
 use Rattle.meaning.specs.Bounds.{schemas}
-use Rattle.meaning.specs.Valid.{InRange, valid}
-use Rattle.meaning.specs.Cases.{hasRow, someRow, negative, wanted, isCase}
+use Rattle.meaning.specs.Valid.{InRange}
+use Rattle.meaning.specs.Decided.{valid, hasRow, someRow, negative, wanted, isCase}
 use Rattle.meaning.proofs.DecidedLists.{each-length}
 use Rattle.meaning.proofs.Relations.{rows-table}
 use Rattle.catalog.specs.Frames.{frameIn}
@@ -28,8 +28,8 @@ use Rattle.store.specs.Rows.{rowsIn}
 use Rattle.store.proofs.RowLaws.{rows-length}
 use Rattle.views.proofs.Copying.{apart-same}
 use Rattle.cases.specs.Needs.{Flag}
-use Rattle.cases.specs.Relations.{columnsOf, AnyRows, Refutes}
-use Rattle.cases.specs.Validity.{Validates}
+use Rattle.cases.specs.Relations.{columnsOf, ViewRows, IsRefuted}
+use Rattle.cases.specs.Validity.{IsValid}
 use Rattle.cases.specs.Judgement.{SignNoted, RowsNoted, Known, Ready, TablesKept, Evaluates, IsWanted, IsCase}
 use Rattle.cases.proofs.SignLaws.{positive}
 use Rattle.cases.proofs.Turns.{turn-known}
@@ -45,7 +45,7 @@ module _ {frame asked counts refuted : List ℕ} {work : List ℤ} {v : ℕ} whe
     noted = λ f l. absurd (h (e ∙ f .on));
   }
 
-  pub sign-noted : {r : Bool} {work′ : List ℤ} {refuted′ : List ℕ} {b : ℕ} → Refutes frame counts refuted work v r work′ → b ≡ tick r 0 → refuted′ ≡ set refuted v b
+  pub sign-noted : {r : Bool} {work′ : List ℤ} {refuted′ : List ℕ} {b : ℕ} → IsRefuted frame counts refuted work v r work′ → b ≡ tick r 0 → refuted′ ≡ set refuted v b
       → SignNoted frame asked counts refuted work v refuted′ work′
   sign-noted {r} {b = b} R q e = record {
     apart = R .apart;
@@ -63,7 +63,7 @@ module _ {frame shape needed counts : List ℕ} {work : List ℤ} {v : ℕ} wher
     noted = λ f l. absurd (h (e ∙ f .on));
   }
 
-  pub rows-noted : {n : ℕ} {work′ : List ℤ} {counts′ : List ℕ} → AnyRows frame shape counts work v n work′ → counts′ ≡ set counts v n
+  pub rows-noted : {n : ℕ} {work′ : List ℤ} {counts′ : List ℕ} → ViewRows frame shape counts work v n work′ → counts′ ≡ set counts v n
       → RowsNoted frame shape needed counts work v counts′ work′
   rows-noted {n} {work′} A e = record {
     apart = A .apart;
@@ -180,14 +180,14 @@ module _ {bytes starts shape needed asked : List ℕ} {o : Outline} {g : GoalHer
     case = λ {F} {d} G R. no-row F (goalOf g) d (filled-rows (R .shaped) ∙ sym (G .filled) ∙ h);
   }
 
-  pub case-invalid : {b : Bool} → Validates bytes shape o counts work b → b ≡ false → IsCase bytes starts shape needed asked o g counts refuted work false counts refuted work
+  pub case-invalid : {b : Bool} → IsValid bytes shape o counts work b → b ≡ false → IsCase bytes starts shape needed asked o g counts refuted work false counts refuted work
   case-invalid ok h = record {
     kept = kept-same (o .tables) counts work;
     refuted-size = refl;
     case = λ {F} {d} G R. not-valid F (goalOf g) d (sym (ok .is-valid G (R .shaped) (R .tables)) ∙ h);
   }
 
-  pub case-valid : {b r : Bool} {counts′ refuted′ : List ℕ} {work′ : List ℤ} → o .filled ≡ true → Validates bytes shape o counts work b → b ≡ true
+  pub case-valid : {b r : Bool} {counts′ refuted′ : List ℕ} {work′ : List ℤ} → o .filled ≡ true → IsValid bytes shape o counts work b → b ≡ true
       → Evaluates bytes starts shape needed asked o counts refuted work counts′ refuted′ work′ → IsWanted g counts′ refuted′ r
       → IsCase bytes starts shape needed asked o g counts refuted work r counts′ refuted′ work′
   case-valid {r = r} {counts′} {refuted′} {work′} f ok h E X = record {

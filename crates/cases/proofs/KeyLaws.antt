@@ -12,7 +12,7 @@ use Rattle.value.proofs.Decides.{by-test}
 use Rattle.meaning.specs.Lists.{all, any, pairwise}
 use Rattle.meaning.specs.Syntax.{Row, File, Database}
 use Rattle.meaning.specs.Evaluation.{missing}
-use Rattle.meaning.specs.Valid.{differ, keyHolds}
+use Rattle.meaning.specs.Decided.{differ, keyHolds}
 use Rattle.meaning.proofs.Stacks.{by-lt}
 use Rattle.catalog.specs.Arrays.{widthAt, maskAt}
 use Rattle.language.specs.Frames.{noTable}

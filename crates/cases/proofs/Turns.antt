@@ -17,7 +17,7 @@ use Rattle.meaning.specs.Rows.{rows}
 use Rattle.meaning.specs.Algebra.{query, below}
 use Rattle.meaning.specs.Bounds.{schema, schemas, names}
 use Rattle.meaning.specs.Valid.{Shaped}
-use Rattle.meaning.specs.Cases.{negative}
+use Rattle.meaning.specs.Decided.{negative}
 use Rattle.meaning.specs.Clear.{RangesHold}
 use Rattle.meaning.proofs.Elements.{all-both}
 use Rattle.meaning.proofs.DecidedLists.{each-length}

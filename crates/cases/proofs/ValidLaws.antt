@@ -9,7 +9,8 @@ use lib.ListN.{length}
 use Rattle.value.proofs.Decides.{true-dec}
 use Rattle.meaning.specs.Lists.{all, each}
 use Rattle.meaning.specs.Syntax.{File, Database}
-use Rattle.meaning.specs.Valid.{Shaped, foreignKeyHolds, keyHolds, valid}
+use Rattle.meaning.specs.Valid.{Shaped}
+use Rattle.meaning.specs.Decided.{foreignKeyHolds, keyHolds, valid}
 use Rattle.meaning.proofs.Elements.{all-at}
 use Rattle.meaning.proofs.DecidedLists.{each-length}
 use Rattle.meaning.proofs.DecidedValidity.{shaped-dec}
@@ -18,7 +19,7 @@ use Rattle.catalog.specs.FileIn.{FileIn}
 use Rattle.catalog.specs.declared.outline.Outline.{Outline}
 use Rattle.catalog.proofs.FileLaws.{columns-are}
 use Rattle.cases.specs.TablesIn.{TablesIn}
-use Rattle.cases.specs.Validity.{ForeignsHeld, KeysHeld, Validates}
+use Rattle.cases.specs.Validity.{ForeignsHeld, KeysHeld, IsValid}
 
 valid-is : (F : File) (d : Database) → Shaped F d → valid F d ≡ (each keyHolds (F .tables) d && all (foreignKeyHolds d) (F .keys))
 unfolding valid
@@ -36,14 +37,14 @@ module _ {bytes shape : List ℕ} {o : Outline} {counts : List ℕ} {work : List
       (λ t h. G .masks t (omega arith))
       s
 
-  pub invalid-keys : {r : Bool} → KeysHeld shape counts work (o .tables) r → r ≡ false → Validates bytes shape o counts work false
+  pub invalid-keys : {r : Bool} → KeysHeld shape counts work (o .tables) r → r ≡ false → IsValid bytes shape o counts work false
   invalid-keys k z = record {
     is-valid = λ {F} {d} G sh s.
         sym (valid-is F d sh ∙ ap (λ b. b && all (foreignKeyHolds d) (F .keys)) (sym (keys-told k G sh s) ∙ z));
   }
 
   pub valid-both : {q r : Bool} → KeysHeld shape counts work (o .tables) q → q ≡ true → ForeignsHeld bytes (o .foreign) (o .keys) counts work r
-      → Validates bytes shape o counts work r
+      → IsValid bytes shape o counts work r
   valid-both k z f = record {
     is-valid = λ {F} {d} G sh s.
         let (rest, e) = G .foreign in

@@ -10,7 +10,7 @@ use Rattle.meaning.specs.Syntax.{Goal, File, Database}
 use Rattle.meaning.specs.Rows.{rows}
 use Rattle.meaning.specs.Bounds.{schemas}
 use Rattle.meaning.specs.Valid.{Shaped}
-use Rattle.meaning.specs.Cases.{negative, isCase}
+use Rattle.meaning.specs.Decided.{negative, isCase}
 use Rattle.catalog.specs.FileIn.{FileIn, goalOf}
 use Rattle.catalog.specs.declared.outline.Outline.{Outline}
 use Rattle.catalog.specs.declared.plan.Goal.{Goal as GoalHere}
@@ -19,7 +19,7 @@ use Rattle.store.specs.Rows.{rowsIn}
 use Rattle.views.specs.Copies.{Apart}
 use Rattle.cases.specs.TablesIn.{TablesIn}
 use Rattle.cases.specs.Needs.{Flag, Covers}
-use Rattle.cases.specs.Relations.{columnsOf, AnyRows, Refutes}
+use Rattle.cases.specs.Relations.{columnsOf, ViewRows, IsRefuted}
 
 -- ---- one view
 
@@ -28,14 +28,14 @@ pub record SignNoted (frame asked counts refuted : List ℕ) (work : List ℤ) (
   pub apart : Apart v work work′
   pub size : length refuted′ ≡ length refuted
   pub others : (i : ℕ) → (i ≡ v → ⊥) → getD refuted′ i 0 ≡ getD refuted i 0
-  pub noted : Flag asked v → v < length refuted → (r : Bool) × Refutes frame counts refuted work v r work′ × (getD refuted′ v 0 ≡ cond r 1 0)
+  pub noted : Flag asked v → v < length refuted → (r : Bool) × IsRefuted frame counts refuted work v r work′ × (getD refuted′ v 0 ≡ cond r 1 0)
 
 -- where its rows are needed they are worked out; what belongs to other relations stays
 pub record RowsNoted (frame shape needed counts : List ℕ) (work : List ℤ) (v : ℕ) (counts′ : List ℕ) (work′ : List ℤ) : Type 0 where
   pub apart : Apart v work work′
   pub size : length counts′ ≡ length counts
   pub others : (i : ℕ) → (i ≡ v → ⊥) → getD counts′ i 0 ≡ getD counts i 0
-  pub noted : Flag needed v → v < length counts → AnyRows frame shape counts work v (getD counts′ v 0) work′
+  pub noted : Flag needed v → v < length counts → ViewRows frame shape counts work v (getD counts′ v 0) work′
 
 -- ---- all views
 

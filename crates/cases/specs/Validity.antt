@@ -9,7 +9,8 @@ use Rattle.text.specs.Answers.{pack}
 use Rattle.value.specs.Bag.{All}
 use Rattle.meaning.specs.Lists.{all, any, each}
 use Rattle.meaning.specs.Syntax.{Table, Pair, ForeignKey, File, Database}
-use Rattle.meaning.specs.Valid.{Shaped, differ, keyHolds, agrees, foreignKeyHolds, valid}
+use Rattle.meaning.specs.Valid.{Shaped}
+use Rattle.meaning.specs.Decided.{differ, keyHolds, agrees, foreignKeyHolds, valid}
 use Rattle.language.specs.Legal.{LegalKey, LegalPair, tableAt}
 use Rattle.language.specs.Written.{maskOf, pairsBytes, keyBytes}
 use Rattle.catalog.specs.Arrays.{widthAt, maskAt}
@@ -58,6 +59,6 @@ pub record ForeignsHeld (bytes : List ℕ) (at keys : ℕ) (counts : List ℕ) (
 
 -- ---- the whole
 
-pub record Validates (bytes shape : List ℕ) (o : Outline) (counts : List ℕ) (work : List ℤ) (r : Bool) : Type 0 where
+pub record IsValid (bytes shape : List ℕ) (o : Outline) (counts : List ℕ) (work : List ℤ) (r : Bool) : Type 0 where
   pub is-valid : {F : File} {d : Database} {starts : List ℕ} {ends : List ℤ} → FileIn F bytes starts shape ends o → Shaped F d → TablesIn F d counts work
       → r ≡ valid F d

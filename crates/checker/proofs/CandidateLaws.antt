@@ -9,12 +9,12 @@ use lib.ListN.{length, getD}
 use Rattle.value.specs.Value.{Column, size}
 use Rattle.meaning.specs.Lists.{copies}
 use Rattle.meaning.specs.Syntax.{Table}
-use Rattle.meaning.specs.Candidates.{product, cellColumns}
+use Rattle.meaning.specs.Candidates.{sizesProduct, cellColumns}
 use Rattle.meaning.proofs.Stacks.{by-lt}
 use Rattle.language.specs.Legal.{tableAt}
 use Rattle.catalog.specs.Arrays.{noColumn, columnAt}
 use Rattle.catalog.specs.FileIn.{TablesIn}
-use Rattle.checker.specs.CandidateCount.{tooMany, cappedProduct, columnsFrom, tableCells, cellsFrom, Counted}
+use Rattle.checker.specs.CandidateCount.{tooMany, cappedProduct, columnsFrom, tableCells, cellsFrom, CandidatesOf}
 
 sub-one : (n : ℕ) → suc n - 1 ≡ n
 sub-one n = omega arith
@@ -30,7 +30,7 @@ size-positive : (c : Column) → 0 < size c
 unfolding size
 size-positive c = omega arith
 
-product-positive : (cs : List Column) → 0 < product cs
+product-positive : (cs : List Column) → 0 < sizesProduct cs
 product-positive [] = omega arith
 product-positive (c ∷ cs) = mul-pos (size-positive c) (product-positive cs)
 
@@ -40,13 +40,13 @@ cap-later x p h = by-lt x tooMany
     (λ _ l. let e : min x tooMany ≡ x = omega arith in rw e)
     (λ _ l. let e : min x tooMany ≡ tooMany = omega arith in rw e (omega (arith, mul-le-mul-right p l)))
 
-pub capped-product : (n : ℕ) (cs : List Column) → n ≤ tooMany → cappedProduct n cs ≡ min (n * product cs) tooMany
+pub capped-product : (n : ℕ) (cs : List Column) → n ≤ tooMany → cappedProduct n cs ≡ min (n * sizesProduct cs) tooMany
 unfolding cappedProduct
 capped-product n [] h = omega arith
 capped-product n (c ∷ cs) h =
     capped-product (min (n * size c) tooMany) cs (omega arith)
-    ∙ cap-later (n * size c) (product cs) (product-positive cs)
-    ∙ ap (λ k. min k tooMany) (mul-assoc n (size c) (product cs))
+    ∙ cap-later (n * size c) (sizesProduct cs) (product-positive cs)
+    ∙ ap (λ k. min k tooMany) (mul-assoc n (size c) (sizesProduct cs))
 
 -- ---- tables in the arrays
 
@@ -74,7 +74,7 @@ module _ (shape : List ℕ) (ends : List ℤ) where
   table-back {ts} T t h = rw (T .rows t h, T .width t h)
       (ap (copies (tableAt ts t .rows)) (columns-back t 0 (tableAt ts t .columns) (λ i l. let z : 0 + i ≡ i = omega arith in ap (columnAt shape ends t) z ∙ T .column t i h l)))
 
-  pub counted : (tables r : ℕ) → r ≡ cappedProduct 1 (cellsFrom shape ends 0 tables) → Counted shape ends tables r
+  pub counted : (tables r : ℕ) → r ≡ cappedProduct 1 (cellsFrom shape ends 0 tables) → CandidatesOf shape ends tables r
   counted tables r e = record {
     counted = λ ts T n.
         let c : cellsFrom shape ends 0 tables ≡ cellColumns ts = rw n (cells-back 0 ts (λ i l. let z : 0 + i ≡ i = omega arith in ap (tableCells shape ends) z ∙ table-back T i l)) in

@@ -14,7 +14,7 @@ use Rattle.language.specs.Reading.{Read, Reader, _>>=_, either, byteIf, readE, 
 use Rattle.language.proofs.Readers.{then-ok}
 use Rattle.meaning.proofs.Stacks.{length-snoc}
 use Rattle.language.specs.Draft.{Draft, Item, empty, added, isTable, isView, width, inOrder, hasRoom}
-use Rattle.language.specs.Frames.{times, field, ending, columnField, pairField, placeField, fromList, tableFrame, keyFrame, basicFrame, groupedFrame, setFrame, goalFrame, frame, wholeFault, noTable}
+use Rattle.language.specs.Frames.{repeated, field, ending, columnField, pairField, placeField, fromList, tableFrame, keyFrame, basicFrame, groupedFrame, setFrame, goalFrame, frame, wholeFault, noTable}
 use Rattle.language.specs.Check.{Checked, readChecked, checkFrame}
 use Rattle.checker.specs.FixedFaults.{KeysFit}
 use Rattle.language.proofs.MaskLaws.{length-maskBits}
@@ -43,13 +43,13 @@ module _ {B : Type 0} {P : B → Type 0} where
       go [] x rest e = let q : y ≡ x = cc in subst P q h
       go (b ∷ bs) x rest e = let z : _≡_ {A = ℕ} 0 1 = cc in absurd (omega arith)
 
-yields-times : {A : Type 0} (r : Reader A) (n : ℕ) → Yields (λ xs. length xs ≡ n) (times n r)
+yields-times : {A : Type 0} (r : Reader A) (n : ℕ) → Yields (λ xs. length xs ≡ n) (repeated n r)
 yields-times r zero = record { reads = λ bs x rest e. let q : x ≡ [] = cc in ap length q }
 yields-times r (suc n) =
     record {
       reads = λ bs x rest e.
           let (y, mid, p, q) = then-ok (r bs) _ e in
-          let (ys, end, s, t) = then-ok (times n r mid) _ q in
+          let (ys, end, s, t) = then-ok (repeated n r mid) _ q in
           let same : x ≡ y ∷ ys = cc in
           ap length same ∙ ap suc (yields-times r n .reads mid ys end s);
     }
@@ -69,17 +69,17 @@ table-fits = yields-after (field 0 8) (λ r. yields-after (field 1 4) (λ n. yie
 module _ (d : Draft) where
   key-fits : Yields ItemFits (keyFrame d)
   key-fits = yields-after (byteIf 6 (isTable d)) (λ c. yields-after (byteIf 6 (isTable d)) (λ p. yields-after (field 1 4) (λ n.
-      yields-after (times n (pairField (width d c) (width d p))) (λ ps. yields-ending _ tt))))
+      yields-after (repeated n (pairField (width d c) (width d p))) (λ ps. yields-ending _ tt))))
 
   basic-fits : Yields ItemFits (basicFrame d)
   basic-fits = yields-after (fromList d) (λ fs. yields-after (field 1 8) (λ n.
-      yields-after (readC (map (width d) fs)) (λ w. yields-after (times n (readE (map (width d) fs))) (λ es. yields-ending _ tt))))
+      yields-after (readC (map (width d) fs)) (λ w. yields-after (repeated n (readE (map (width d) fs))) (λ es. yields-ending _ tt))))
 
   grouped-fits : Yields ItemFits (groupedFrame d)
   grouped-fits = yields-after (fromList d) (λ fs. yields-after (field 0 4) (λ g. yields-after (field 1 8) (λ n.
       let cols = map (width d) fs in
-      yields-after (readC cols) (λ w. yields-after (times g (placeField cols)) (λ gs.
-      yields-after (readC cols) (λ h. yields-after (times n (readE cols)) (λ es. yields-ending _ tt)))))))
+      yields-after (readC cols) (λ w. yields-after (repeated g (placeField cols)) (λ gs.
+      yields-after (readC cols) (λ h. yields-after (repeated n (readE cols)) (λ es. yields-ending _ tt)))))))
 
   set-fits : (op : SetOperation) → Yields ItemFits (setFrame d op)
   set-fits op = yields-after (byteIf 6 (isView d)) (λ i. yields-after (byteIf 6 (isView d)) (λ j. yields-ending _ tt))

@@ -19,7 +19,7 @@ use Rattle.language.specs.Reading.{Read, done, _>>=_, byteIf}
 use Rattle.meaning.specs.Bounds.{schema}
 use Rattle.catalog.specs.Arrays.{widthAt, boundAt, maskAt}
 use Rattle.language.specs.Draft.{Draft, Item, width, relationCount, schemasOf}
-use Rattle.language.specs.Frames.{ending, times, columnField, pairField, tableFrame, keyFrame, setFrame, goalFrame, wholeFault, noTable}
+use Rattle.language.specs.Frames.{ending, repeated, columnField, pairField, tableFrame, keyFrame, setFrame, goalFrame, wholeFault, noTable}
 use Rattle.checker.specs.Faults.{faultOf, faultAt, first, under, within, fromUnder}
 use Rattle.checker.specs.Catalogued.{Catalogued, bodyFault}
 use Rattle.checker.specs.FixedFaults.{columnsFault, pairsFault, pairing, setRules, KeysFit}
@@ -149,7 +149,7 @@ module _ {d : Draft} {shape : List ℕ} {ends : List ℤ} (known : Catalogued d 
     -- the whole-frame rule, once the parent is known to be a table
     key-whole : KeysFit d → let c = getD frame 1 0 in let p = getD frame 2 0 in let n = getD frame 3 0 in
         faultAt frame 2 (byteIf 6 (under (length (d .tables)))) ≡ 0
-        → (ps : List Pair) (left : List ℕ) → times n (pairField (width d c) (width d p)) (drop 4 frame) ≡ Read.ok ps left
+        → (ps : List Pair) (left : List ℕ) → repeated n (pairField (width d c) (width d p)) (drop 4 frame) ≡ Read.ok ps left
         → wholeFault d (Item.key (record { child = c; parent = p; pairs = ps })) ≡ pairing frame n 0 (widthAt shape p) (maskAt shape p)
     key-whole fit z ps left e =
         let c = getD frame 1 0 in
@@ -176,4 +176,4 @@ module _ {d : Draft} {shape : List ℕ} {ends : List ℤ} (known : Catalogued d 
         ∙ ap (first _) (body-byte d frame 2 6 (under (length (d .tables))) _ six
         ∙ first-where _ (λ z. body-byte d frame 3 5 (within 1 4) _ five
         ∙ ap (first _) (body-sized d frame pairs 4 _ _ (λ ps left e. body-end d frame (4 + n * 2) _ ∙ ap (first _) (key-whole fit z ps left e))
-        ∙ ap₂ first (ap₂ (λ v w. faultAt frame 4 (times n (pairField v w))) (width-known (getD frame 1 0)) (width-known (getD frame 2 0))) refl)))
+        ∙ ap₂ first (ap₂ (λ v w. faultAt frame 4 (repeated n (pairField v w))) (width-known (getD frame 1 0)) (width-known (getD frame 2 0))) refl)))

@@ -13,7 +13,7 @@ use Rattle.value.proofs.Decides.{by-test}
 use Rattle.meaning.specs.Syntax.{Pair}
 use Rattle.language.specs.Reading.{Read, done, refuse, _>>=_, byteIf, either}
 use Rattle.language.proofs.Readers.{then-ok}
-use Rattle.language.specs.Frames.{times, pairField, exactlyKey}
+use Rattle.language.specs.Frames.{repeated, pairField, exactlyKey}
 use Rattle.language.specs.Written.{maskOf}
 use Rattle.checker.specs.Faults.{first, under}
 use Rattle.checker.specs.FixedFaults.{parentCount, columnPairing, pairing}
@@ -44,16 +44,16 @@ module _ (c p : ℕ) (frame : List ℕ) where
       ∙ getD-drop at frame 1 0
 
   -- how often a column is a parent column can be counted in the bytes
-  pub parents-read : (i n at : ℕ) (ps : List Pair) (left : List ℕ) → times n (pairField c p) (drop at frame) ≡ Read.ok ps left
+  pub parents-read : (i n at : ℕ) (ps : List Pair) (left : List ℕ) → repeated n (pairField c p) (drop at frame) ≡ Read.ok ps left
       → countIf (λ q. eqb (q .parent) i) ps ≡ parentCount frame i at n
   unfolding parentCount
   parents-read i zero at ps left e = let same : ps ≡ [] = cc in rw same
   parents-read i (suc n) at ps left e =
-      let (q, mid, a, f) = then-ok (pairField c p (drop at frame)) (λ x. times n (pairField c p) >>= λ xs. done (x ∷ xs)) e in
-      let (qs, end, b, g) = then-ok (times n (pairField c p) mid) (λ xs. done (q ∷ xs)) f in
+      let (q, mid, a, f) = then-ok (pairField c p (drop at frame)) (λ x. repeated n (pairField c p) >>= λ xs. done (x ∷ xs)) e in
+      let (qs, end, b, g) = then-ok (repeated n (pairField c p) mid) (λ xs. done (q ∷ xs)) f in
       let same : ps ≡ q ∷ qs = cc in
       let there : mid ≡ drop (at + 2) frame = sized-pair c p .rest (drop at frame) q mid a ∙ drop-drop 2 at frame in
-      let more : times n (pairField c p) (drop (at + 2) frame) ≡ Read.ok qs end = ap (times n (pairField c p)) (sym there) ∙ b in
+      let more : repeated n (pairField c p) (drop (at + 2) frame) ≡ Read.ok qs end = ap (repeated n (pairField c p)) (sym there) ∙ b in
       ap (countIf (λ q. eqb (q .parent) i)) same
       ∙ ap₂ tick (ap (λ k. eqb k i) (pair-parent at q mid a)) (parents-read i n (at + 2) qs end more)
 

@@ -34,7 +34,7 @@ use Rattle.catalog.specs.Frames.{frameAt}
 use Rattle.catalog.specs.FileIn.{TablesIn, FileIn, goalOf}
 use Rattle.catalog.specs.declared.plan.Plan.{Plan}
 use Rattle.catalog.proofs.FileLaws.{table-schema, tables-in}
-use Rattle.checker.specs.CandidateCount.{tooMany, Counted}
+use Rattle.checker.specs.CandidateCount.{tooMany, CandidatesOf}
 use Rattle.checker.specs.Standing.{DraftIn, startProgress}
 use Rattle.checker.specs.Plans.{WalkedTo, Walks, startFrom, frameOf, PlanFrom, Plans}
 use Rattle.checker.specs.declared.plan.Walked.{Walked}
@@ -104,7 +104,7 @@ module _ (text : List ℕ) (r : Frames) (fs : List (List ℕ)) (e : framesOf tex
       frames-are : fs ≡ fileFrames (fileAt draft-is goal-is)
       number-is : n ≡ min (candidates (fileAt draft-is goal-is)) tooMany
 
-    ready : (n : ℕ) → w .state .stage ≡ 5 → Counted shape ends (w .state .tables) n → Ready n
+    ready : (n : ℕ) → w .state .stage ≡ 5 → CandidatesOf shape ends (w .state .tables) n → Ready n
     unfolding candidates
     ready n five c =
         let (d, q, held) = came-to in
@@ -154,7 +154,7 @@ module _ (text : List ℕ) (r : Frames) (fs : List (List ℕ)) (e : framesOf tex
           filled = o .filled .some-row F (sym (s .tables)) (λ i. ap (λ (x : Schema). x .bound) (known .schemas i));
         }
 
-    pub plan-too-large : (n : ℕ) (p : Plan) → w .state .stage ≡ 5 → Counted shape ends (w .state .tables) n → n ≡ tooMany
+    pub plan-too-large : (n : ℕ) (p : Plan) → w .state .stage ≡ 5 → CandidatesOf shape ends (w .state .tables) n → n ≡ tooMany
         → p .number ≡ 10 → p .line ≡ 0 → Plans (fileOf text) p
     plan-too-large n p five c big a b =
         let k = ready n five c in
@@ -163,7 +163,7 @@ module _ (text : List ℕ) (r : Frames) (fs : List (List ℕ)) (e : framesOf tex
         let o : fileOf text ≡ Outcome.refused 10 0 = k .concluded-is ∙ finished-some (k .draft-is) (k .goal-is) (k .named) false (lt-leb N candidateLimit above) in
         rw o (a, b, λ x. omega arith)
 
-    pub plan-done : (n : ℕ) (p : Plan) → PlanFrom (r .bytes) (w .state) shape ends n p → w .state .stage ≡ 5 → Counted shape ends (w .state .tables) n
+    pub plan-done : (n : ℕ) (p : Plan) → PlanFrom (r .bytes) (w .state) shape ends n p → w .state .stage ≡ 5 → CandidatesOf shape ends (w .state .tables) n
         → (n ≡ tooMany → ⊥) → Plans (fileOf text) p
     plan-done n p P five c small =
         let k = ready n five c in
@@ -209,12 +209,12 @@ module _ (text : List ℕ) (r : Frames) (dec : Decoded (framesOf text) r) where
       pub way-without-goal : (p : Plan) → (w .state .stage ≡ 5 → ⊥) → (p .number ≡ 3) × (p .line ≡ 0) → Plans (fileOf text) p
       way-without-goal p nz a = let (fs, e, h) = accepted text r dec z in plan-without-goal text r fs e h w shape ends (walked-to fs h) y p nz (a .0) (a .1)
 
-      pub way-too-large : (n : ℕ) (p : Plan) → w .state .stage ≡ 5 → Counted shape ends (w .state .tables) n → n ≡ tooMany
+      pub way-too-large : (n : ℕ) (p : Plan) → w .state .stage ≡ 5 → CandidatesOf shape ends (w .state .tables) n → n ≡ tooMany
           → (p .number ≡ 10) × (p .line ≡ 0) → Plans (fileOf text) p
       way-too-large n p five c big a =
           let (fs, e, h) = accepted text r dec z in plan-too-large text r fs e h w shape ends (walked-to fs h) y n p five c big (a .0) (a .1)
 
-      pub way-done : (n : ℕ) (p : Plan) → PlanFrom (r .bytes) (w .state) shape ends n p → w .state .stage ≡ 5 → Counted shape ends (w .state .tables) n
+      pub way-done : (n : ℕ) (p : Plan) → PlanFrom (r .bytes) (w .state) shape ends n p → w .state .stage ≡ 5 → CandidatesOf shape ends (w .state .tables) n
           → (n ≡ tooMany → ⊥) → Plans (fileOf text) p
       way-done n p P five c small =
           let (fs, e, h) = accepted text r dec z in plan-done text r fs e h w shape ends (walked-to fs h) y n p P five c small

@@ -10,7 +10,7 @@ use lib.Signed.{leZ}
 use Rattle.value.specs.Integer.{bytesZ}
 use Rattle.language.specs.Reading.{Read, Reader, done, refuse, andThen, _>>=_, byte, byteIf, either}
 use Rattle.language.proofs.Readers.{then-ok}
-use Rattle.language.specs.Frames.{times, columnField, pairField}
+use Rattle.language.specs.Frames.{repeated, columnField, pairField}
 use Rattle.checker.specs.Faults.{faultOf, faultAt, first, under}
 use Rattle.checker.proofs.FieldLaws.{Sized, sized-then, first-none, first-some}
 
@@ -66,37 +66,37 @@ sized-byteIf n p h = sized-bind sized-byte (λ b. sized-either (p b) (sized-done
 -- ---- repetitions
 
 module _ {A : Type 0} {size : ℕ} {r : Reader A} (s : Sized size r) where
-  pub sized-times : (n : ℕ) → Sized (n * size) (times n r)
-  sized-times zero = let e : 0 ≡ 0 * size = omega arith in subst (λ k. Sized k (times 0 r)) e (sized-done [])
+  pub sized-times : (n : ℕ) → Sized (n * size) (repeated n r)
+  sized-times zero = let e : 0 ≡ 0 * size = omega arith in subst (λ k. Sized k (repeated 0 r)) e (sized-done [])
   sized-times (suc n) =
       let e : size + (n * size + 0) ≡ suc n * size = omega arith in
-      subst (λ k. Sized k (times (suc n) r)) e (sized-bind s (λ x. sized-bind (sized-times n) (λ xs. sized-done (x ∷ xs))))
+      subst (λ k. Sized k (repeated (suc n) r)) e (sized-bind s (λ x. sized-bind (sized-times n) (λ xs. sized-done (x ∷ xs))))
 
   module _ (frame : List ℕ) (at : ℕ) where
     -- one and then the others
-    times-suc : (n : ℕ) → faultAt frame at (times (suc n) r) ≡ first (faultAt frame at r) (faultAt frame (at + size) (times n r))
+    times-suc : (n : ℕ) → faultAt frame at (repeated (suc n) r) ≡ first (faultAt frame at r) (faultAt frame (at + size) (repeated n r))
     unfolding faultAt
-    times-suc n = sized-then s frame at _ _ (λ x. same x (times n r (drop (at + size) frame)))
+    times-suc n = sized-then s frame at _ _ (λ x. same x (repeated n r (drop (at + size) frame)))
       where
         same : (x : A) (m : Read (List A)) → faultOf (andThen m (λ xs. done (x ∷ xs))) ≡ faultOf m
         same x (Read.ok xs rest) = refl
         same x (Read.refused k) = refl
 
-    times-more : (n : ℕ) → 0 < n → faultAt frame at (times n r) ≡ first (faultAt frame at r) (faultAt frame (at + size) (times (n - 1) r))
+    times-more : (n : ℕ) → 0 < n → faultAt frame at (repeated n r) ≡ first (faultAt frame at r) (faultAt frame (at + size) (repeated (n - 1) r))
     times-more zero h = absurd (omega arith)
     times-more (suc n) h =
         let e : n ≡ suc n - 1 = omega arith in
-        times-suc n ∙ ap (λ k. first (faultAt frame at r) (faultAt frame (at + size) (times k r))) e
+        times-suc n ∙ ap (λ k. first (faultAt frame at r) (faultAt frame (at + size) (repeated k r))) e
 
     -- a turn that finds a fault, and one that finds none
-    pub times-stop : (n found : ℕ) → 0 < n → found ≡ faultAt frame at r → (found ≡ 0 → ⊥) → faultAt frame at (times n r) ≡ found
+    pub times-stop : (n found : ℕ) → 0 < n → found ≡ faultAt frame at r → (found ≡ 0 → ⊥) → faultAt frame at (repeated n r) ≡ found
     times-stop n found h e f = times-more n h ∙ first-some _ _ (λ z. f (e ∙ z)) ∙ sym e
 
     pub times-go : (n found : ℕ) → 0 < n → found ≡ faultAt frame at r → found ≡ 0
-        → faultAt frame at (times n r) ≡ faultAt frame (at + size) (times (n - 1) r)
-    times-go n found h e z = times-more n h ∙ ap (λ k. first k (faultAt frame (at + size) (times (n - 1) r))) (sym e ∙ z) ∙ first-none _
+        → faultAt frame at (repeated n r) ≡ faultAt frame (at + size) (repeated (n - 1) r)
+    times-go n found h e z = times-more n h ∙ ap (λ k. first k (faultAt frame (at + size) (repeated (n - 1) r))) (sym e ∙ z) ∙ first-none _
 
-    pub times-end : (n : ℕ) → n ≤ 0 → faultAt frame at (times n r) ≡ 0
+    pub times-end : (n : ℕ) → n ≤ 0 → faultAt frame at (repeated n r) ≡ 0
     unfolding faultAt
     times-end zero h = refl
     times-end (suc n) h = absurd (omega arith)

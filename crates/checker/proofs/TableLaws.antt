@@ -20,7 +20,7 @@ use Rattle.language.specs.Reading.{Read, Reader, _>>=_, byteIf, done}
 use Rattle.language.proofs.Readers.{then-ok}
 use Rattle.catalog.specs.Arrays.{rangesFrom, putShape, putRanges}
 use Rattle.language.specs.Draft.{Item}
-use Rattle.language.specs.Frames.{times, field, ending, maskBits, columnField, tableFrame}
+use Rattle.language.specs.Frames.{repeated, field, ending, maskBits, columnField, tableFrame}
 use Rattle.language.specs.Written.{maskOf}
 use Rattle.checker.specs.Entries.{columnFrom, columnIn, TableEntered}
 use Rattle.catalog.proofs.ArrayLaws.{none, puts-outside, puts-ranges}
@@ -71,14 +71,14 @@ column-shift bs c =
     shift-none : 4 + 4 * c ≡ 4 * suc c
     shift-none = omega arith
 
-columns-read : (n : ℕ) (bs : List ℕ) (cs : List Column) (rest : List ℕ) → times n columnField bs ≡ Read.ok cs rest
+columns-read : (n : ℕ) (bs : List ℕ) (cs : List Column) (rest : List ℕ) → repeated n columnField bs ≡ Read.ok cs rest
     → (length cs ≡ n) × ((c : ℕ) → c < n → columnOn bs (4 * c) ≡ getD (map rangeOf cs) c none)
 columns-read zero bs cs rest e = let q : [] ≡ cs = cc in (sym (ap length q), λ c h. absurd (omega arith))
 columns-read (suc n) bs cs rest e =
-    let (x, mid, p, q) = then-ok (columnField bs) (λ x. times n columnField >>= λ xs. done (x ∷ xs)) e in
-    let (xs, left, p′, q′) = then-ok (times n columnField mid) (λ xs. done (x ∷ xs)) q in
+    let (x, mid, p, q) = then-ok (columnField bs) (λ x. repeated n columnField >>= λ xs. done (x ∷ xs)) e in
+    let (xs, left, p′, q′) = then-ok (repeated n columnField mid) (λ xs. done (x ∷ xs)) q in
     let one = column-read bs x mid p in
-    let more = columns-read n (drop 4 bs) xs left (ap (times n columnField) (sym (one .1)) ∙ p′) in
+    let more = columns-read n (drop 4 bs) xs left (ap (repeated n columnField) (sym (one .1)) ∙ p′) in
     let s : x ∷ xs ≡ cs = cc in
     rw (← s) (ap suc (more .0), λ c. go c x xs (one .0) (more .1))
   where
@@ -114,7 +114,7 @@ pub table-read : (frame : List ℕ) (t : Table) → tableFrame (drop 1 frame) �
 table-read frame t e =
     let bs = drop 1 frame in
     let table : ℕ → ℕ → ℕ → List Column → Table = λ r n m cs. record { rows = r; columns = cs; key = maskBits n m } in
-    let after : ℕ → ℕ → ℕ → Reader Item = λ r n m. times n columnField >>= λ cs. ending (Item.table (table r n m cs)) in
+    let after : ℕ → ℕ → ℕ → Reader Item = λ r n m. repeated n columnField >>= λ cs. ending (Item.table (table r n m cs)) in
     let (t₁, e₁) = byte-read 5 (λ b. leb 0 b && leb b 8) bs (λ r. field 1 4 >>= λ n. byteIf 5 (λ m. ltb m (2 ^ n)) >>= λ m. after r n m) e in
     let r = getD bs 0 0 in
     let (t₂, e₂) = byte-read 5 (λ b. leb 1 b && leb b 4) (drop 1 bs) (λ n. byteIf 5 (λ m. ltb m (2 ^ n)) >>= λ m. after r n m) e₁ in
@@ -122,7 +122,7 @@ table-read frame t e =
     let (t₃, e₃) = byte-read 5 (λ m. ltb m (2 ^ n)) (drop 1 (drop 1 bs)) (λ m. after r n m) e₂ in
     let m = getD (drop 1 (drop 1 bs)) 0 0 in
     let tail = drop 1 (drop 1 (drop 1 bs)) in
-    let (cs, left, p, q) = then-ok (times n columnField tail) (λ cs. ending (Item.table (table r n m cs))) e₃ in
+    let (cs, left, p, q) = then-ok (repeated n columnField tail) (λ cs. ending (Item.table (table r n m cs))) e₃ in
     let same : table r n m cs ≡ t = table-same (table r n m cs) t (ending-read (Item.table (table r n m cs)) (Item.table t) left q) in
     let columns = columns-read n tail cs left p in
     let first : r ≡ getD frame 1 0 = getD-drop 1 frame 0 0 in

@@ -24,7 +24,7 @@ use Rattle.prefix.proofs.Ends.{Ends, Field, ends-done, ends-more, ends-bind, fi
 use Rattle.prefix.proofs.Skips.{Landed, lands, field-lands, then-more, then-stop, next-is, level-done, level-bind, level-at}
 use Rattle.catalog.specs.Arrays.{widthAt}
 use Rattle.language.specs.Draft.{Draft, width}
-use Rattle.language.specs.Frames.{times, ending, placeField}
+use Rattle.language.specs.Frames.{repeated, ending, placeField}
 use Rattle.checker.specs.Faults.{faultOf, faultAt, first, under, within}
 use Rattle.checker.specs.Catalogued.{Catalogued}
 use Rattle.checker.specs.ViewFaults.{fromsUnder, selectEnd, conditionSelect, whereGroups, bytesAt}
@@ -83,19 +83,19 @@ alike-end x y = record { same = go }
 -- ---- bytes of one test
 
 module _ (frame : List ℕ) (n : ℕ) (p : ℕ → Bool) (z : n ≡ 0 → ⊥) where
-  pub times-first : (at k : ℕ) → faultAt frame at (times (suc k) (byteIf n p)) ≡ first (faultAt frame at (byteIf n p)) (faultAt frame (at + 1) (times k (byteIf n p)))
+  pub times-first : (at k : ℕ) → faultAt frame at (repeated (suc k) (byteIf n p)) ≡ first (faultAt frame at (byteIf n p)) (faultAt frame (at + 1) (repeated k (byteIf n p)))
   times-first at k =
-      byte-then frame at n p (λ x. times k (byteIf n p) >>= λ xs. done (x ∷ xs)) z
-      ∙ ap (first (faultAt frame at (byteIf n p))) (alike-at frame (at + 1) (alike-done (times k (byteIf n p)) (λ xs. getD frame at 0 ∷ xs)))
+      byte-then frame at n p (λ x. repeated k (byteIf n p) >>= λ xs. done (x ∷ xs)) z
+      ∙ ap (first (faultAt frame at (byteIf n p))) (alike-at frame (at + 1) (alike-done (repeated k (byteIf n p)) (λ xs. getD frame at 0 ∷ xs)))
 
   pub times-then : {B : Type 0} (k at : ℕ) (f : List ℕ → Reader B)
-      → faultAt frame at (times k (byteIf n p) >>= f) ≡ first (faultAt frame at (times k (byteIf n p))) (faultAt frame (at + k) (f (bytesAt frame at k)))
+      → faultAt frame at (repeated k (byteIf n p) >>= f) ≡ first (faultAt frame at (repeated k (byteIf n p))) (faultAt frame (at + k) (f (bytesAt frame at k)))
   unfolding faultAt bytesAt
   times-then zero at f = let e : at + 0 ≡ at = omega arith in rw e (sym (first-none _))
   times-then (suc k) at f =
       let b = getD frame at 0 in
       let m = byteIf n p in
-      let more = times k m in
+      let more = repeated k m in
       let e : at + 1 + k ≡ at + suc k = omega arith in
       alike-at frame at (alike-assoc m (λ x. more >>= λ xs. done (x ∷ xs)) f)
       ∙ byte-then frame at n p (λ x. (more >>= λ xs. done (x ∷ xs)) >>= f) z
@@ -103,15 +103,15 @@ module _ (frame : List ℕ) (n : ℕ) (p : ℕ → Bool) (z : n ≡ 0 → ⊥) w
       (alike-at frame (at + 1) (alike-assoc more (λ xs. done (b ∷ xs)) f) ∙ times-then k (at + 1) (λ xs. f (b ∷ xs)))
       ∙ first-assoc (faultAt frame at m) (faultAt frame (at + 1) more) (faultAt frame (at + 1 + k) (f (b ∷ bytesAt frame (at + 1) k)))
       ∙ ap (λ a. first a (faultAt frame (at + 1 + k) (f (b ∷ bytesAt frame (at + 1) k)))) (sym (times-first at k))
-      ∙ ap (λ j. first (faultAt frame at (times (suc k) m)) (faultAt frame j (f (b ∷ bytesAt frame (at + 1) k)))) e
+      ∙ ap (λ j. first (faultAt frame at (repeated (suc k) m)) (faultAt frame j (f (b ∷ bytesAt frame (at + 1) k)))) e
 
 -- ---- the from list
 
 module _ (frame : List ℕ) (count : ℕ) where
-  pub froms-fault : faultAt frame 1 (fromsUnder count) ≡ first (faultAt frame 1 (byteIf 5 (within 1 3))) (faultAt frame 2 (times (getD frame 1 0) (byteIf 6 (under count))))
-  froms-fault = byte-then frame 1 5 (within 1 3) (λ n. times n (byteIf 6 (under count))) (λ e. omega arith)
+  pub froms-fault : faultAt frame 1 (fromsUnder count) ≡ first (faultAt frame 1 (byteIf 5 (within 1 3))) (faultAt frame 2 (repeated (getD frame 1 0) (byteIf 6 (under count))))
+  froms-fault = byte-then frame 1 5 (within 1 3) (λ n. repeated n (byteIf 6 (under count))) (λ e. omega arith)
 
-  pub froms-are : {n a b r : ℕ} → n ≡ getD frame 1 0 → a ≡ faultAt frame 1 (byteIf 5 (within 1 3)) → b ≡ faultAt frame 2 (times n (byteIf 6 (under count)))
+  pub froms-are : {n a b r : ℕ} → n ≡ getD frame 1 0 → a ≡ faultAt frame 1 (byteIf 5 (within 1 3)) → b ≡ faultAt frame 2 (repeated n (byteIf 6 (under count)))
       → r ≡ first a b → r ≡ faultAt frame 1 (fromsUnder count)
   froms-are x y z w = let l = froms-fault in cc
 
@@ -132,17 +132,17 @@ module _ (frame : List ℕ) (count : ℕ) where
       let r = byteIf 6 (under count) in
       let z : (k : ℕ) → suc k ≡ 0 → ⊥ = λ k e. omega arith in
       let e : 2 + n ≡ n + 2 = omega arith in
-      alike-at frame 1 (alike-assoc (byteIf 5 (within 1 3)) (λ k. times k r) f)
-      ∙ byte-then frame 1 5 (within 1 3) (λ k. times k r >>= f) (z 4)
+      alike-at frame 1 (alike-assoc (byteIf 5 (within 1 3)) (λ k. repeated k r) f)
+      ∙ byte-then frame 1 5 (within 1 3) (λ k. repeated k r >>= f) (z 4)
       ∙ ap (first (faultAt frame 1 (byteIf 5 (within 1 3)))) (times-then frame 6 (under count) (z 5) n 2 f)
-      ∙ first-assoc (faultAt frame 1 (byteIf 5 (within 1 3))) (faultAt frame 2 (times n r)) (faultAt frame (2 + n) (f (bytesAt frame 2 n)))
+      ∙ first-assoc (faultAt frame 1 (byteIf 5 (within 1 3))) (faultAt frame 2 (repeated n r)) (faultAt frame (2 + n) (f (bytesAt frame 2 n)))
       ∙ ap (λ a. first a (faultAt frame (2 + n) (f (bytesAt frame 2 n)))) (sym froms-fault)
       ∙ ap (λ j. first (faultAt frame 1 (fromsUnder count)) (faultAt frame j (f (bytesAt frame 2 n)))) e
 
 -- the relations one by one, from the last: those from the i-th on have the fault
 pub record Relations (frame : List ℕ) (count n i fault : ℕ) : Type 0 where
   pub few : i ≤ n
-  pub same : fault ≡ faultAt frame (i + 2) (times (n - i) (byteIf 6 (under count)))
+  pub same : fault ≡ faultAt frame (i + 2) (repeated (n - i) (byteIf 6 (under count)))
 
 module _ (frame : List ℕ) (count n : ℕ) where
   pub relations-holds : {i : ℕ} → i ≡ n → Relations frame count n i 0
@@ -164,7 +164,7 @@ module _ (frame : List ℕ) (count n : ℕ) where
           same = rw (e, t, k) (cc);
         }
 
-    pub relations-returns : i ≡ 0 → fault ≡ faultAt frame 2 (times n (byteIf 6 (under count)))
+    pub relations-returns : i ≡ 0 → fault ≡ faultAt frame 2 (repeated n (byteIf 6 (under count)))
     relations-returns e =
         let k : n - i ≡ n = omega arith in
         let l : i + 2 ≡ 2 = omega arith in
@@ -199,13 +199,13 @@ module _ (frame : List ℕ) where
 
 -- ---- a repetition
 
-ends-times : {A : Type 0} {m : Reader A} → Ends m → (n : ℕ) → Ends (times n m)
+ends-times : {A : Type 0} {m : Reader A} → Ends m → (n : ℕ) → Ends (repeated n m)
 ends-times e zero = ends-done []
 ends-times e (suc n) = ends-more e (ends-times e n)
 
 -- n of the same from `at` on, of which `left` are left from `next` on
 pub record Repeated {A : Type 0} (frame : List ℕ) (m : Reader A) (at n next left : ℕ) : Type 0 where
-  pub same : skipped frame at (times n m) ≡ skipped frame next (times left m)
+  pub same : skipped frame at (repeated n m) ≡ skipped frame next (repeated left m)
   pub inside : next ≤ length frame
 
 module _ {A : Type 0} (frame : List ℕ) {m : Reader A} (s : Field m) (at n : ℕ) where
@@ -217,19 +217,19 @@ module _ {A : Type 0} (frame : List ℕ) {m : Reader A} (s : Field m) (at n : �
     repeat-again h p q =
         let k : left ≡ suc (left - 1) = omega arith in
         record {
-          same = i .same ∙ ap (λ j. skipped frame next (times j m)) k ∙ then-more frame s next p q (times (left - 1) m);
+          same = i .same ∙ ap (λ j. skipped frame next (repeated j m)) k ∙ then-more frame s next p q (repeated (left - 1) m);
           inside = field-lands frame s next _ (sym p ∙ q) .inside;
         }
 
-    pub repeat-stops : {e : ℕ} {r : Skip} → 0 < left → r ≡ skipped frame next m → r ≡ Refused e → skipped frame at (times n m) ≡ Refused e
+    pub repeat-stops : {e : ℕ} {r : Skip} → 0 < left → r ≡ skipped frame next m → r ≡ Refused e → skipped frame at (repeated n m) ≡ Refused e
     repeat-stops h p q =
         let k : left ≡ suc (left - 1) = omega arith in
-        i .same ∙ ap (λ j. skipped frame next (times j m)) k ∙ then-stop frame m _ next _ p q
+        i .same ∙ ap (λ j. skipped frame next (repeated j m)) k ∙ then-stop frame m _ next _ p q
 
-    pub repeat-ends : left ≡ 0 → skipped frame at (times n m) ≡ Next next
-    repeat-ends h = i .same ∙ ap (λ j. skipped frame next (times j m)) h ∙ next-is frame (done []) next next (i .inside) refl
+    pub repeat-ends : left ≡ 0 → skipped frame at (repeated n m) ≡ Next next
+    repeat-ends h = i .same ∙ ap (λ j. skipped frame next (repeated j m)) h ∙ next-is frame (done []) next next (i .inside) refl
 
-  pub repeat-lands : {next : ℕ} {r : Skip} → at ≤ length frame → r ≡ skipped frame at (times n m) → r ≡ Next next → Landed frame (times n m) at next
+  pub repeat-lands : {next : ℕ} {r : Skip} → at ≤ length frame → r ≡ skipped frame at (repeated n m) → r ≡ Next next → Landed frame (repeated n m) at next
   repeat-lands h p q = lands frame (ends-times (s .ends) n) at _ h (sym p ∙ q)
 
 -- ---- a grouping column: the place of an expression, read as a place
@@ -250,14 +250,14 @@ place-field cols =
 -- ---- a condition, grouping columns, expressions, the end
 
 module _ (frame cols : List ℕ) (at : ℕ) where
-  module _ (m : ℕ) {n : ℕ} {r : Skip} (p : r ≡ skipped frame at (times m (readE cols))) where
+  module _ (m : ℕ) {n : ℕ} {r : Skip} (p : r ≡ skipped frame at (repeated m (readE cols))) where
     pub select-next : {v : ℕ} → at ≤ length frame → r ≡ Next n → v ≡ faultAt frame n (ending n) → v ≡ faultAt frame at (selectEnd cols m)
     unfolding selectEnd
     select-next h q e = e ∙ sym (fault-next frame (repeat-lands frame (fieldE cols) at m h p q) (λ es. ending es) (λ es. end-any frame n es n))
 
     pub select-stop : r ≡ Refused n → n ≡ faultAt frame at (selectEnd cols m)
     unfolding selectEnd
-    select-stop q = sym (fault-stop frame (times m (readE cols)) (λ es. ending es) at n p q)
+    select-stop q = sym (fault-stop frame (repeated m (readE cols)) (λ es. ending es) at n p q)
 
   module _ {n : ℕ} {r : Skip} (p : r ≡ skipped frame at (readC cols)) where
     landed : r ≡ Next n → Landed frame (readC cols) at n
@@ -278,16 +278,16 @@ module _ (frame cols : List ℕ) (at : ℕ) where
       module _ (g : ℕ) where
         pub where-stop : r ≡ Refused n → n ≡ faultAt frame at (whereGroups cols g m)
         unfolding whereGroups
-        where-stop q = sym (fault-stop frame (readC cols) (λ w. times g (placeField cols) >>= λ gs. conditionSelect cols m) at n p q)
+        where-stop q = sym (fault-stop frame (readC cols) (λ w. repeated g (placeField cols) >>= λ gs. conditionSelect cols m) at n p q)
 
-        module _ {s : Skip} (q : r ≡ Next n) (t : s ≡ skipped frame n (times g (placeField cols))) where
-          at-places : faultAt frame at (whereGroups cols g m) ≡ faultAt frame n (times g (placeField cols) >>= λ gs. conditionSelect cols m)
+        module _ {s : Skip} (q : r ≡ Next n) (t : s ≡ skipped frame n (repeated g (placeField cols))) where
+          at-places : faultAt frame at (whereGroups cols g m) ≡ faultAt frame n (repeated g (placeField cols) >>= λ gs. conditionSelect cols m)
           unfolding whereGroups
-          at-places = fault-next frame (landed q) (λ w. times g (placeField cols) >>= λ gs. conditionSelect cols m) (λ w. refl)
+          at-places = fault-next frame (landed q) (λ w. repeated g (placeField cols) >>= λ gs. conditionSelect cols m) (λ w. refl)
 
           pub groups-next : {k v : ℕ} → s ≡ Next k → v ≡ faultAt frame k (conditionSelect cols m) → v ≡ faultAt frame at (whereGroups cols g m)
           groups-next u e =
               e ∙ sym (at-places ∙ fault-next frame (repeat-lands frame (place-field cols) n g (landed q .inside) t u) (λ gs. conditionSelect cols m) (λ gs. refl))
 
           pub groups-stop : {k : ℕ} → s ≡ Refused k → k ≡ faultAt frame at (whereGroups cols g m)
-          groups-stop u = sym (at-places ∙ fault-stop frame (times g (placeField cols)) (λ gs. conditionSelect cols m) n _ t u)
+          groups-stop u = sym (at-places ∙ fault-stop frame (repeated g (placeField cols)) (λ gs. conditionSelect cols m) n _ t u)

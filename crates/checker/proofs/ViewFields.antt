@@ -20,7 +20,7 @@ use Rattle.catalog.specs.Frames.{fromsIn, partsAfter}
 use Rattle.catalog.specs.declared.frames.Parts.{Parts}
 use Rattle.bounds.specs.Walk.{placesFrom}
 use Rattle.language.specs.Draft.{Draft, Item, relationCount, width}
-use Rattle.language.specs.Frames.{times, field, ending, fromList, placeField, groupedFrame}
+use Rattle.language.specs.Frames.{repeated, field, ending, fromList, placeField, groupedFrame}
 use Rattle.checker.proofs.FieldLaws.{at-end}
 
 -- ---- lists
@@ -39,8 +39,8 @@ pub drop-past : (frame : List ℕ) (at : ℕ) → length frame ≤ at → drop (
 drop-past frame at h = drop-length frame ∙ sym (drop-of-length-le frame h)
 
 -- the last of several
-pub times-snoc : {A : Type 0} (r : Reader A) (c : ℕ) (bs : List ℕ) (es : List A) (rest : List ℕ) → times (suc c) r bs ≡ Read.ok es rest
-    → (es₀ : List A) × (e : A) × (mid : List ℕ) × (times c r bs ≡ Read.ok es₀ mid) × (r mid ≡ Read.ok e rest) × (es ≡ es₀ ++ (e ∷ []))
+pub times-snoc : {A : Type 0} (r : Reader A) (c : ℕ) (bs : List ℕ) (es : List A) (rest : List ℕ) → repeated (suc c) r bs ≡ Read.ok es rest
+    → (es₀ : List A) × (e : A) × (mid : List ℕ) × (repeated c r bs ≡ Read.ok es₀ mid) × (r mid ≡ Read.ok e rest) × (es ≡ es₀ ++ (e ∷ []))
 times-snoc r zero bs es rest h =
     let (x, mid, p, q) = then-ok (r bs) _ h in
     let s : mid ≡ rest = cc in
@@ -48,11 +48,11 @@ times-snoc r zero bs es rest h =
     ([], x, bs, refl, p ∙ ap (Read.ok x) s, sym t)
 times-snoc r (suc c) bs es rest h =
     let (x, mid, p, q) = then-ok (r bs) _ h in
-    let (xs, end, s, t) = then-ok (times (suc c) r mid) _ q in
+    let (xs, end, s, t) = then-ok (repeated (suc c) r mid) _ q in
     let a : x ∷ xs ≡ es = cc in
     let b : end ≡ rest = cc in
     let (es₀, e, m, u, v, w) = times-snoc r c mid xs end s in
-    (x ∷ es₀, e, m, then-is (λ y. times c r >>= λ ys. done (y ∷ ys)) p (then-is (λ ys. done (x ∷ ys)) u refl), v ∙ ap (Read.ok e) b, sym a ∙ ap (_∷_ x) w)
+    (x ∷ es₀, e, m, then-is (λ y. repeated c r >>= λ ys. done (y ∷ ys)) p (then-is (λ ys. done (x ∷ ys)) u refl), v ∙ ap (Read.ok e) b, sym a ∙ ap (_∷_ x) w)
 
 -- ---- the fields of a frame
 
@@ -73,7 +73,7 @@ byte-read n p frame at b rest e = by-test (ltb at (length frame))
     (λ l. let z : Read.refused 4 ≡ Read.ok b rest = rw (at-end frame at (ltb-false at (length frame) l)) at e in
     let y : _≡_ {A = ℕ} 0 1 = cc in absurd (omega arith))
 
-pub bytes-read : (k : ℕ) (p : ℕ → Bool) (n : ℕ) (bs fs rest : List ℕ) → times n (byteIf k p) bs ≡ Read.ok fs rest
+pub bytes-read : (k : ℕ) (p : ℕ → Bool) (n : ℕ) (bs fs rest : List ℕ) → repeated n (byteIf k p) bs ≡ Read.ok fs rest
     → (fs ≡ take n bs) × (rest ≡ drop n bs) × (n ≤ length bs) × All (λ i. p i ≡ true) fs
 bytes-read k p zero bs fs rest e =
     let a : [] ≡ fs = cc in
@@ -82,7 +82,7 @@ bytes-read k p zero bs fs rest e =
 bytes-read k p (suc n) [] fs rest e = let y : _≡_ {A = ℕ} 0 1 = cc in absurd (omega arith)
 bytes-read k p (suc n) (x ∷ bs) fs rest e =
     let (b, mid, s, q) = then-ok (byteIf k p (x ∷ bs)) _ e in
-    let (gs, end, t, u) = then-ok (times n (byteIf k p) mid) _ q in
+    let (gs, end, t, u) = then-ok (repeated n (byteIf k p) mid) _ q in
     let a : b ∷ gs ≡ fs = cc in
     let z : end ≡ rest = cc in
     let (i, j, g, _) = byte-read k p (x ∷ bs) 0 b mid s in
@@ -124,7 +124,7 @@ place-read cols frame at x rest e =
     let z : end ≡ rest = cc in
     (sym y ∙ ap₂ (λ k l. record { item = k; column = l }) a u, sym z ∙ v ∙ drop-as frame (at + 1 + 1) (at + 2) (omega arith))
 
-pub places-read : (cols frame : List ℕ) (g at : ℕ) (gs : List Place) (rest : List ℕ) → times g (placeField cols) (drop at frame) ≡ Read.ok gs rest
+pub places-read : (cols frame : List ℕ) (g at : ℕ) (gs : List Place) (rest : List ℕ) → repeated g (placeField cols) (drop at frame) ≡ Read.ok gs rest
     → (gs ≡ placesFrom frame at g) × (rest ≡ drop (at + 2 * g) frame)
 unfolding placesFrom
 places-read cols frame zero at gs rest e =
@@ -133,11 +133,11 @@ places-read cols frame zero at gs rest e =
     (sym a, sym b ∙ drop-as frame at (at + 2 * 0) (omega arith))
 places-read cols frame (suc g) at gs rest e =
     let (x, mid, p, q) = then-ok (placeField cols (drop at frame)) _ e in
-    let (xs, end, s, t) = then-ok (times g (placeField cols) mid) _ q in
+    let (xs, end, s, t) = then-ok (repeated g (placeField cols) mid) _ q in
     let a : x ∷ xs ≡ gs = cc in
     let b : end ≡ rest = cc in
     let (i, j) = place-read cols frame at x mid p in
-    let (u, v) = places-read cols frame g (at + 2) xs end (ap (times g (placeField cols)) (sym j) ∙ s) in
+    let (u, v) = places-read cols frame g (at + 2) xs end (ap (repeated g (placeField cols)) (sym j) ∙ s) in
     (sym a ∙ ap₂ _∷_ i u, sym b ∙ v ∙ drop-as frame (at + 2 + 2 * g) (at + 2 * suc g) (omega arith))
 
 pub view-read : (p q : View) (bs rest : List ℕ) → ending (Item.view p) bs ≡ Read.ok (Item.view q) rest → p ≡ q
@@ -148,7 +148,7 @@ view-read p q (b ∷ bs) rest e = let z : _≡_ {A = ℕ} 0 1 = cc in absurd (om
 abbrev pub groupedTrees : Draft → List ℕ → ℕ → ℕ → Reader Item
 groupedTrees d fs g n =
     let cols = map (width d) fs in
-    readC cols >>= λ w. times g (placeField cols) >>= λ gs. readC cols >>= λ h. times n (readE cols) >>= λ es.
+    readC cols >>= λ w. repeated g (placeField cols) >>= λ gs. readC cols >>= λ h. repeated n (readE cols) >>= λ es.
     ending (Item.view (View.grouped fs w gs h es))
 
 pub record GroupedTrees (d : Draft) (fs : List ℕ) (g n : ℕ) (bs : List ℕ) (q : View) : Type 0 where
@@ -161,18 +161,18 @@ pub record GroupedTrees (d : Draft) (fs : List ℕ) (g n : ℕ) (bs : List ℕ) 
   pub mid″ : List ℕ
   pub rest : List ℕ
   pub readW : readC (map (width d) fs) bs ≡ Read.ok w mid
-  pub readG : times g (placeField (map (width d) fs)) mid ≡ Read.ok gs mid′
+  pub readG : repeated g (placeField (map (width d) fs)) mid ≡ Read.ok gs mid′
   pub readH : readC (map (width d) fs) mid′ ≡ Read.ok h mid″
-  pub readS : times n (readE (map (width d) fs)) mid″ ≡ Read.ok es rest
+  pub readS : repeated n (readE (map (width d) fs)) mid″ ≡ Read.ok es rest
   pub same : View.grouped fs w gs h es ≡ q
 
 pub trees-read : (d : Draft) (fs : List ℕ) (g n : ℕ) (bs : List ℕ) (q : View) → groupedTrees d fs g n bs ≡ Read.ok (Item.view q) [] → GroupedTrees d fs g n bs q
 trees-read d fs g n bs q e =
     let cols = map (width d) fs in
     let (w, m₁, p₁, q₁) = then-ok (readC cols bs) _ e in
-    let (gs, m₂, p₂, q₂) = then-ok (times g (placeField cols) m₁) _ q₁ in
+    let (gs, m₂, p₂, q₂) = then-ok (repeated g (placeField cols) m₁) _ q₁ in
     let (h, m₃, p₃, q₃) = then-ok (readC cols m₂) _ q₂ in
-    let (es, m₄, p₄, q₄) = then-ok (times n (readE cols) m₃) _ q₃ in
+    let (es, m₄, p₄, q₄) = then-ok (repeated n (readE cols) m₃) _ q₃ in
     record {
       w = w;
       gs = gs;

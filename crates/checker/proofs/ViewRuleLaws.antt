@@ -32,7 +32,7 @@ use Rattle.bounds.specs.declared.Sized.{Sized}
 use Rattle.bounds.specs.declared.Tested.{Tested}
 use Rattle.bounds.proofs.Parts.{ranged-is}
 use Rattle.language.specs.Draft.{Draft, Item, added, relationCount, schemasOf, width}
-use Rattle.language.specs.Frames.{times, field, fromList, placeField, basicFrame, groupedFrame, wholeFault}
+use Rattle.language.specs.Frames.{repeated, field, fromList, placeField, basicFrame, groupedFrame, wholeFault}
 use Rattle.checker.specs.Catalogued.{Catalogued}
 use Rattle.checker.specs.ViewRules.{factorAt, productOf, Product, putRanged, viewFault, EntryRoom, Selects, RuledAs, Tail, Rules}
 use Rattle.checker.specs.declared.view_rules.Ruled.{Ruled}
@@ -47,7 +47,7 @@ use Rattle.checker.proofs.ViewFields.{partsOf, all-snoc, drop-as, times
 record BasicOf (frame : List ℕ) (P : Parts) (items shape : List ℕ) (ends : List ℤ) (r : ℕ) (ends′ : List ℤ) (a : Ruled) : Type 0 where
   ruled : EntryRoom shape ends items r → length items ≤ 3 → P .width ≤ 8 → (w : Cond) (es : List Expr) (mid rest : List ℕ)
       → readC (widthsIn shape items) (drop (P .body) frame) ≡ Read.ok w mid
-      → times (P .width) (readE (widthsIn shape items)) mid ≡ Read.ok es rest
+      → repeated (P .width) (readE (widthsIn shape items)) mid ≡ Read.ok es rest
       → let I = itemsIn shape ends items in let R = productOf shape items in
       RuledAs (allowedC anyColumn false w && all (allowedE anyColumn false) es) (withinC I R w && all (withinE I R) es) es I R r ends ends′ a
 
@@ -55,9 +55,9 @@ record GroupedOf (frame : List ℕ) (P : Parts) (items shape : List ℕ) (ends :
   ruled : EntryRoom shape ends items r → length items ≤ 3 → P .width ≤ 8 → (w : Cond) (gs : List Place) (h : Cond) (es : List Expr)
       (mid mid′ mid″ rest : List ℕ)
       → readC (widthsIn shape items) (drop (P .body) frame) ≡ Read.ok w mid
-      → times (P .groups) (placeField (widthsIn shape items)) mid ≡ Read.ok gs mid′
+      → repeated (P .groups) (placeField (widthsIn shape items)) mid ≡ Read.ok gs mid′
       → readC (widthsIn shape items) mid′ ≡ Read.ok h mid″
-      → times (P .width) (readE (widthsIn shape items)) mid″ ≡ Read.ok es rest
+      → repeated (P .width) (readE (widthsIn shape items)) mid″ ≡ Read.ok es rest
       → let I = itemsIn shape ends items in let R = productOf shape items in
       RuledAs (allowedC anyColumn false w && (allowedC (groupingColumn gs) true h && all (allowedE (groupingColumn gs) true) es))
       (withinC I R w && (withinC I R h && all (withinE I R) es)) es I R r ends ends′ a
@@ -105,7 +105,7 @@ module _ (frame : List ℕ) (start : ℕ) (items shape : List ℕ) (ends : List 
   -- c expressions have been walked, and the next begins at `at`
   pub record SelectsTo (c : ℕ) (now : List ℤ) (at : ℕ) (allowed within : Bool) : Type 0 where
     pub so-far : Selects frame start c items shape ends r rule now allowed within
-    pub next : (es : List Expr) (rest : List ℕ) → times c (readE (widthsIn shape items)) (drop start frame) ≡ Read.ok es rest → drop at frame ≡ rest
+    pub next : (es : List Expr) (rest : List ℕ) → repeated c (readE (widthsIn shape items)) (drop start frame) ≡ Read.ok es rest → drop at frame ≡ rest
 
   pub selects-none : SelectsTo 0 ends start true true
   unfolding rangesFrom
@@ -204,7 +204,7 @@ module _ (frame : List ℕ) (P : Parts) (items shape : List ℕ) (ends : List �
     ruled = λ room few narrow w es mid rest readW readS.
         let s′ = subst (λ k. Tail frame w′ (P .width) items shape ends r k ends′ a) re s in
         let (next, al, wi) = plain-tests .tests w mid readW in
-        let x = s′ .ruled room narrow es rest (ap (times (P .width) (readE (widthsIn shape items))) next ∙ readS) in
+        let x = s′ .ruled room narrow es rest (ap (repeated (P .width) (readE (widthsIn shape items))) next ∙ readS) in
         subst (λ R. RuledAs (allowedC anyColumn false w && all (allowedE anyColumn false) es) (withinC I R w && all (withinE I R) es) es I R r ends ends′ a)
         (product .product few)
         (ruled-as (ap (λ b. b && all (allowedE anyColumn false) es) al) (ap (λ b. b && all (withinE I bound) es) wi) x);
@@ -220,9 +220,9 @@ module _ (frame : List ℕ) (P : Parts) (items shape : List ℕ) (ends : List �
         let cols = widthsIn shape items in
         let s′ = subst (λ k. Tail frame k (P .width) items shape ends r (groupedRule bound places (P .groups)) ends′ a) he s in
         let (next, al, wi) = plain-tests .tests w mid readW in
-        let (gp, gr) = places-read cols frame (P .groups) places gs mid′ (ap (times (P .groups) (placeField cols)) (at ∙ next) ∙ readG) in
+        let (gp, gr) = places-read cols frame (P .groups) places gs mid′ (ap (repeated (P .groups) (placeField cols)) (at ∙ next) ∙ readG) in
         let (next′, al′, wi′) = u .tests h mid″ (ap (readC cols) (sym gr) ∙ readH) in
-        let x = s′ .ruled room narrow es rest (ap (times (P .width) (readE cols)) next′ ∙ readS) in
+        let x = s′ .ruled room narrow es rest (ap (repeated (P .width) (readE cols)) next′ ∙ readS) in
         let G = groupingColumn (placesFrom frame places (P .groups)) in
         let fit : ((w′ .allowed && h′ .allowed) && all (allowedE G true) es)
         ≡ (allowedC anyColumn false w && (allowedC (groupingColumn gs) true h && all (allowedE (groupingColumn gs) true) es)) =
@@ -291,14 +291,14 @@ module _ (d : Draft) {shape : List ℕ} {ends : List ℤ} (c : Catalogued d shap
           let (n, m₂, p₂, q₂) = then-ok (field 1 8 m₁) _ q₁ in
           let (i, j, t, _) = byte-read 5 (λ b. leb 1 b && leb b 8) frame (n₀ + 2) n m₂ (ap (field 1 8) (sym (F .behind)) ∙ p₂) in
           let (w, m₃, p₃, q₃) = then-ok (readC (map (width d) fs) m₂) _ q₂ in
-          let (es, m₄, p₄, q₄) = then-ok (times n (readE (map (width d) fs)) m₃) _ q₃ in
+          let (es, m₄, p₄, q₄) = then-ok (repeated n (readE (map (width d) fs)) m₃) _ q₃ in
           let same : View.basic fs w es ≡ q = view-read (View.basic fs w es) q m₄ [] q₄ in
           let B′ = subst (λ k. BasicOf frame (partsOf false frame) k shape ends r ends′ a) (list ∙ sym (F .list))
           (subst (λ (p : Parts). BasicOf frame p items shape ends r ends′ a) pe B) in
           let start : m₂ ≡ drop (n₀ + 3) frame = j ∙ drop-as frame (n₀ + 2 + 1) (n₀ + 3) (omega arith) in
           let readW : readC (widthsIn shape fs) (drop (n₀ + 3) frame) ≡ Read.ok w m₃ = ap₂ readC (sym (widths-are c fs)) (sym start) ∙ p₃ in
-          let readS : times (getD frame (n₀ + 2) 0) (readE (widthsIn shape fs)) m₃ ≡ Read.ok es m₄ =
-          ap₂ (λ k cols. times k (readE cols) m₃) (sym i) (sym (widths-are c fs)) ∙ p₄ in
+          let readS : repeated (getD frame (n₀ + 2) 0) (readE (widthsIn shape fs)) m₃ ≡ Read.ok es m₄ =
+          ap₂ (λ k cols. repeated k (readE cols) m₃) (sym i) (sym (widths-are c fs)) ∙ p₄ in
           let few : getD frame (n₀ + 2) 0 ≤ 8 = rw (← i) (leb-true n 8 (and-parts (leb 1 n) (leb n 8) t .1)) in
           let A = allowedC anyColumn false w && all (allowedE anyColumn false) es in
           subst (Ruling d r shape ends′ a) same
@@ -324,9 +324,9 @@ module _ (d : Draft) {shape : List ℕ} {ends : List ℤ} (c : Catalogued d shap
           (ap₂ (λ R I. record { bound = R; ranges = map (range I R) (T .es) }) (product-is fs) (ranges-are fs))
           (B′ .ruled (room-for fs (G .from .earlier)) (G .from .few) (G .narrow) (T .w) (T .gs) (T .h) (T .es) (T .mid) (T .mid′) (T .mid″) (T .rest)
           (ap (λ cols. readC cols (drop (p .body) frame)) W ∙ T .readW)
-          (ap (λ cols. times (p .groups) (placeField cols) (T .mid)) W ∙ T .readG)
+          (ap (λ cols. repeated (p .groups) (placeField cols) (T .mid)) W ∙ T .readG)
           (ap (λ cols. readC cols (T .mid′)) W ∙ T .readH)
-          (ap (λ cols. times (p .width) (readE cols) (T .mid″)) W ∙ T .readS)))
+          (ap (λ cols. repeated (p .width) (readE cols) (T .mid″)) W ∙ T .readS)))
 
 -- ---- the whole frame
 

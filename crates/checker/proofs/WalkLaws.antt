@@ -19,7 +19,7 @@ use Rattle.catalog.specs.Frames.{frameAt}
 use Rattle.catalog.proofs.FrameLaws.{pack-cons, frame-here}
 use Rattle.checker.specs.Catalogued.{checkedFault}
 use Rattle.checker.specs.Standing.{DraftIn, Stepped, startProgress}
-use Rattle.checker.specs.Plans.{WalkedTo, startFrom, frameOf, Starts}
+use Rattle.checker.specs.Plans.{WalkedTo, startFrom, frameOf, StartsOf}
 use Rattle.checker.specs.declared.state.Progress.{Progress}
 use Rattle.checker.specs.declared.step.Step.{Step}
 use Rattle.language.proofs.Steps.{Looked, looked}
@@ -129,11 +129,11 @@ start-back bytes tail (suc n) at (f ∷ fs) e h =
     let i : at + getD bytes at 0 + 1 ≡ at + 1 + length f = omega (arith, byte-here bytes at here .0) in
     ap (λ j. drop (startFrom bytes j n) bytes) i ∙ start-back bytes tail n (at + 1 + length f) fs (frame-here bytes at f (pack fs ++ tail) here .1) (omega arith)
 
-pub starts-none : (packed : List ℕ) (tables keys : ℕ) (starts : List ℕ) → length starts ≡ 16 → Starts packed tables keys 0 starts
+pub starts-none : (packed : List ℕ) (tables keys : ℕ) (starts : List ℕ) → length starts ≡ 16 → StartsOf packed tables keys 0 starts
 starts-none packed tables keys starts e = record { size = e; there = λ r h. absurd (omega arith) }
 
-pub starts-more : (packed : List ℕ) (tables keys n : ℕ) (starts : List ℕ) (x y : ℕ) → n < 16 → Starts packed tables keys n starts
-    → y ≡ frameOf tables keys n → x ≡ startFrom packed 0 y → Starts packed tables keys (n + 1) (set starts n x)
+pub starts-more : (packed : List ℕ) (tables keys n : ℕ) (starts : List ℕ) (x y : ℕ) → n < 16 → StartsOf packed tables keys n starts
+    → y ≡ frameOf tables keys n → x ≡ startFrom packed 0 y → StartsOf packed tables keys (n + 1) (set starts n x)
 starts-more packed tables keys n starts x y l s f e = record {
   size = length-set starts n x ∙ s .size;
   there = λ r h. by-test (eqb r n)
@@ -153,5 +153,5 @@ unfolding startFrom
 start-end packed at zero h = refl
 start-end packed at (suc n) h = absurd (omega arith)
 
-pub starts-full : (packed : List ℕ) (tables keys n : ℕ) (starts : List ℕ) → 16 ≤ n → Starts packed tables keys n starts → Starts packed tables keys 16 starts
+pub starts-full : (packed : List ℕ) (tables keys n : ℕ) (starts : List ℕ) → 16 ≤ n → StartsOf packed tables keys n starts → StartsOf packed tables keys 16 starts
 starts-full packed tables keys n starts h s = record { size = s .size; there = λ r l. s .there r (omega arith) }

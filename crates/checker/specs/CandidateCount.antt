@@ -7,7 +7,7 @@ use lib.ListN.{length}
 use Rattle.value.specs.Value.{Column, size}
 use Rattle.meaning.specs.Lists.{copies}
 use Rattle.meaning.specs.Syntax.{Table}
-use Rattle.meaning.specs.Candidates.{product, cellColumns}
+use Rattle.meaning.specs.Candidates.{sizesProduct, cellColumns}
 use Rattle.language.specs.Check.{candidateLimit}
 use Rattle.catalog.specs.Arrays.{widthAt, boundAt, columnAt}
 use Rattle.catalog.specs.FileIn.{TablesIn}
@@ -37,5 +37,5 @@ unfoldable pub cellsFrom : List ℕ → List ℤ → ℕ → ℕ → List Column
 cellsFrom shape ends t zero = []
 cellsFrom shape ends t (suc n) = tableCells shape ends t ++ cellsFrom shape ends (t + 1) n
 
-pub record Counted (shape : List ℕ) (ends : List ℤ) (tables r : ℕ) : Type 0 where
-  pub counted : (ts : List Table) → TablesIn ts shape ends → tables ≡ length ts → r ≡ min (product (cellColumns ts)) tooMany
+pub record CandidatesOf (shape : List ℕ) (ends : List ℤ) (tables r : ℕ) : Type 0 where
+  pub counted : (ts : List Table) → TablesIn ts shape ends → tables ≡ length ts → r ≡ min (sizesProduct (cellColumns ts)) tooMany

@@ -11,7 +11,7 @@ use Rattle.value.specs.Bag.{tick}
 use Rattle.meaning.specs.Syntax.{SetOperation}
 use Rattle.meaning.specs.Bounds.{setBound}
 use Rattle.language.specs.Draft.{Draft, relationCount}
-use Rattle.language.specs.Frames.{times, columnField, pairField, tableFrame, keyFrame, setFrame, goalFrame, noTable}
+use Rattle.language.specs.Frames.{repeated, columnField, pairField, tableFrame, keyFrame, setFrame, goalFrame, noTable}
 use Rattle.checker.specs.Faults.{faultAt, first}
 use Rattle.checker.specs.Catalogued.{Catalogued, bodyFault}
 
@@ -19,11 +19,11 @@ use Rattle.checker.specs.Catalogued.{Catalogued, bodyFault}
 
 -- n columns of a table from a place on
 unfoldable pub columnsFault : List ℕ → ℕ → ℕ → ℕ
-columnsFault frame at n = faultAt frame at (times n columnField)
+columnsFault frame at n = faultAt frame at (repeated n columnField)
 
 -- n pairs of a foreign key, between tables of c and p columns
 unfoldable pub pairsFault : List ℕ → ℕ → ℕ → ℕ → ℕ → ℕ
-pairsFault frame c p at n = faultAt frame at (times n (pairField c p))
+pairsFault frame c p at n = faultAt frame at (repeated n (pairField c p))
 
 -- how often column i is the parent column of n pairs
 unfoldable pub parentCount : List ℕ → ℕ → ℕ → ℕ → ℕ

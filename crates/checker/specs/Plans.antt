@@ -37,7 +37,7 @@ startFrom packed at (suc n) = startFrom packed (at + getD packed at 0 + 1) n
 unfoldable pub frameOf : ℕ → ℕ → ℕ → ℕ
 frameOf tables keys r = cond (ltb r tables) r (r + keys)
 
-pub record Starts (packed : List ℕ) (tables keys n : ℕ) (starts : List ℕ) : Type 0 where
+pub record StartsOf (packed : List ℕ) (tables keys n : ℕ) (starts : List ℕ) : Type 0 where
   pub size : length starts ≡ 16
   pub there : (r : ℕ) → r < n → getD starts r 0 ≡ startFrom packed 0 (frameOf tables keys r)
 
@@ -55,7 +55,7 @@ pub record PlanFrom (bytes : List ℕ) (s : Progress) (shape : List ℕ) (ends :
   pub number : p .number ≡ 0
   pub line : p .line ≡ 0
   pub bytes-are : p .bytes ≡ bytes
-  pub starts : Starts bytes (s .tables) (s .keys) 16 (p .starts)
+  pub starts : StartsOf bytes (s .tables) (s .keys) 16 (p .starts)
   pub shape-is : p .shape ≡ shape
   pub ends-are : p .ends ≡ ends
   pub outline : OutlineFrom bytes shape s (p .outline)

@@ -8,7 +8,7 @@ use Rattle.meaning.specs.Syntax.{Expr}
 use Rattle.language.specs.Reading.{Reader, _>>=_, byteIf, readE, readC}
 use Rattle.catalog.specs.Arrays.{widthAt}
 use Rattle.language.specs.Draft.{Draft, relationCount}
-use Rattle.language.specs.Frames.{times, field, ending, placeField, basicFrame, groupedFrame}
+use Rattle.language.specs.Frames.{repeated, field, ending, placeField, basicFrame, groupedFrame}
 use Rattle.checker.specs.Faults.{faultAt, under}
 use Rattle.checker.specs.Catalogued.{Catalogued}
 
@@ -16,11 +16,11 @@ use Rattle.checker.specs.Catalogued.{Catalogued}
 
 -- the from count and the relations, each below `count`
 abbrev pub fromsUnder : ℕ → Reader (List ℕ)
-fromsUnder count = field 1 3 >>= λ n. times n (byteIf 6 (under count))
+fromsUnder count = field 1 3 >>= λ n. repeated n (byteIf 6 (under count))
 
 -- m select expressions, and nothing behind them
 unfoldable pub selectEnd : List ℕ → ℕ → Reader (List Expr)
-selectEnd cols m = times m (readE cols) >>= λ es. ending es
+selectEnd cols m = repeated m (readE cols) >>= λ es. ending es
 
 -- a condition before them: a basic view's where, an aggregate view's having
 unfoldable pub conditionSelect : List ℕ → ℕ → Reader (List Expr)
@@ -28,7 +28,7 @@ conditionSelect cols m = readC cols >>= λ w. selectEnd cols m
 
 -- an aggregate view's where, its g grouping columns, and the rest
 unfoldable pub whereGroups : List ℕ → ℕ → ℕ → Reader (List Expr)
-whereGroups cols g m = readC cols >>= λ w. times g (placeField cols) >>= λ gs. conditionSelect cols m
+whereGroups cols g m = readC cols >>= λ w. repeated g (placeField cols) >>= λ gs. conditionSelect cols m
 
 -- ---- the from items
 

@@ -20,7 +20,7 @@ use Rattle.bounds.specs.Walk.{columnsOf, widthsIn}
 use Rattle.bounds.specs.declared.Rule.{Rule}
 use Rattle.bounds.specs.declared.Tested.{Tested}
 use Rattle.language.specs.Draft.{Draft, Item, added, relationCount}
-use Rattle.language.specs.Frames.{times, wholeFault}
+use Rattle.language.specs.Frames.{repeated, wholeFault}
 use Rattle.checker.specs.Catalogued.{Catalogued}
 use Rattle.checker.specs.declared.view_rules.Ruled.{Ruled}
 
@@ -58,7 +58,7 @@ pub record EntryRoom (shape : List ℕ) (ends : List ℤ) (items : List ℕ) (r 
 pub record Selects (frame : List ℕ) (start c : ℕ) (items shape : List ℕ) (ends : List ℤ) (r : ℕ) (rule : Rule) (ends′ : List ℤ) (allowed within : Bool) : Type 0 where
   pub outside : c ≤ 8 → Outside r ends ends′
   pub selects : EntryRoom shape ends items r → c ≤ 8 → (es : List Expr) (rest : List ℕ)
-      → times c (readE (widthsIn shape items)) (drop start frame) ≡ Read.ok es rest
+      → repeated c (readE (widthsIn shape items)) (drop start frame) ≡ Read.ok es rest
       → (allowed ≡ all (allowedE (columnsOf frame rule) (rule .grouped)) es)
       × (within ≡ all (withinE (itemsIn shape ends items) (rule .bound)) es)
       × (within ≡ true → rangesFrom ends′ (16 * r) c ≡ map (range (itemsIn shape ends items) (rule .bound)) es)
@@ -73,7 +73,7 @@ pub record RuledAs (allowed within : Bool) (es : List Expr) (I : List (List Rang
 
 pub record Tail (frame : List ℕ) (head : Tested) (count : ℕ) (items shape : List ℕ) (ends : List ℤ) (r : ℕ) (rule : Rule) (ends′ : List ℤ) (a : Ruled) : Type 0 where
   pub ruled : EntryRoom shape ends items r → count ≤ 8 → (es : List Expr) (rest : List ℕ)
-      → times count (readE (widthsIn shape items)) (drop (head .next) frame) ≡ Read.ok es rest
+      → repeated count (readE (widthsIn shape items)) (drop (head .next) frame) ≡ Read.ok es rest
       → RuledAs (head .allowed && all (allowedE (columnsOf frame rule) (rule .grouped)) es)
       (head .within && all (withinE (itemsIn shape ends items) (rule .bound)) es)
       es (itemsIn shape ends items) (rule .bound) r ends ends′ a

@@ -13,7 +13,7 @@ ghost use Rattle.meaning.specs.Bounds.{setBound};
 ghost use Rattle.catalog.specs.Arrays.{widthAt, putShape, putRanges};
 ghost use Rattle.checker.specs.Entries.{columnFrom, columnIn, HullsPut, TableEntered, SetEntered};
 ghost use Rattle.checker.specs.FixedFaults.{setOperation};
-ghost use Rattle.checker.specs.CandidateCount.{tooMany, cappedProduct, columnsFrom, tableCells, Counted};
+ghost use Rattle.checker.specs.CandidateCount.{tooMany, cappedProduct, columnsFrom, tableCells, CandidatesOf};
 
 const TABLE: u8 = 1;
 
@@ -171,7 +171,7 @@ fn times_table(shape: &[u8], ends: &[i32], t: u8, n: u64) -> u64
 // The number of candidates of a file's tables, the first relations; 2^24 + 1 stands for any larger number.
 // Refused: 0 with no cells; the first table counted for each.
 pub fn candidates_of(shape: &[u8], ends: &[i32], tables: u8) -> u64
-    ensures { λ n. ⌜ Counted (now (shape .entry)) (now (ends .entry)) tables n ⌝ }
+    ensures { λ n. ⌜ CandidatesOf (now (shape .entry)) (now (ends .entry)) tables n ⌝ }
 {
     let mut p: u64 = 1;
     let mut t: u8 = 0;

@@ -13,7 +13,7 @@ ghost use mathlib.Core.Path.{_≡_};
 ghost use Prim.Native.Nat.{_≤_};
 ghost use lib.ListN.{length};
 ghost use Rattle.language.specs.FileOf.{fileOf};
-ghost use Rattle.checker.specs.Plans.{Walks, startFrom, frameOf, Starts, OutlineFrom, PlanFrom, Plans};
+ghost use Rattle.checker.specs.Plans.{Walks, startFrom, frameOf, StartsOf, OutlineFrom, PlanFrom, Plans};
 
 // How far the frames are taken.
 struct Walked {
@@ -78,7 +78,7 @@ fn frame_of(tables: u8, keys: u8, r: u8) -> u16
 
 // Where each relation's frame begins.
 fn starts_of(bytes: &[u8], tables: u8, keys: u8) -> [u32; 16]
-    ensures { λ s. ⌜ Starts (now (bytes .entry)) tables keys 16 s ⌝ }
+    ensures { λ s. ⌜ StartsOf (now (bytes .entry)) tables keys 16 s ⌝ }
 {
     let mut starts = [0u32; 16];
     let mut r: u8 = 0;

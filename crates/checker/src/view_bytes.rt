@@ -8,7 +8,7 @@ ghost use lib.ListN.{length, getD};
 ghost use Rattle.language.specs.Reading.{byteIf, readE};
 ghost use Rattle.prefix.specs.Skipped.{skipped};
 ghost use Rattle.catalog.specs.Arrays.{widthAt};
-ghost use Rattle.language.specs.Frames.{times, placeField};
+ghost use Rattle.language.specs.Frames.{repeated, placeField};
 ghost use Rattle.checker.specs.Faults.{faultAt, under};
 ghost use Rattle.checker.specs.ViewFaults.{fromsUnder, selectEnd, conditionSelect, whereGroups, widthsAt, BasicBytes, GroupedBytes};
 
@@ -27,7 +27,7 @@ fn items(n: u8) -> usize
 
 // The n relations of a from list, each below `count`.
 fn relations(frame: &[u8], n: u8, count: u8) -> u8
-    ensures { λ r. ⌜ r ≡ faultAt (now (frame .entry)) 2 (times n (byteIf 6 (under count))) ⌝ }
+    ensures { λ r. ⌜ r ≡ faultAt (now (frame .entry)) 2 (repeated n (byteIf 6 (under count))) ⌝ }
 {
     let mut fault: u8 = 0;
     let mut i = wide(n);
@@ -70,7 +70,7 @@ fn widths(frame: &[u8], shape: &[u8]) -> [u8; 3]
 // Where n expressions end.
 fn expressions(frame: &[u8], at: usize, cols: &[u8], n: u8) -> Skip
     requires { ⌜ at ≤ length (now frame) ⌝ }
-    ensures { λ r. ⌜ r ≡ skipped (now (frame .entry)) at (times n (readE (now (cols .entry)))) ⌝ }
+    ensures { λ r. ⌜ r ≡ skipped (now (frame .entry)) at (repeated n (readE (now (cols .entry)))) ⌝ }
 {
     let mut next = at;
     let mut left = n;
@@ -87,7 +87,7 @@ fn expressions(frame: &[u8], at: usize, cols: &[u8], n: u8) -> Skip
 // Where n grouping columns end.
 fn places(frame: &[u8], at: usize, cols: &[u8], n: u8) -> Skip
     requires { ⌜ at ≤ length (now frame) ⌝ }
-    ensures { λ r. ⌜ r ≡ skipped (now (frame .entry)) at (times n (placeField (now (cols .entry)))) ⌝ }
+    ensures { λ r. ⌜ r ≡ skipped (now (frame .entry)) at (repeated n (placeField (now (cols .entry)))) ⌝ }
 {
     let mut next = at;
     let mut left = n;

@@ -10,7 +10,8 @@ use lib.ListN.{length}
 use Rattle.value.proofs.Decides.{by-test}
 use Rattle.meaning.specs.Syntax.{File}
 use Rattle.meaning.specs.Candidates.{cellCount, candidates}
-use Rattle.meaning.specs.Look.{Answer, answerIn, workSize, verdict, candidate, seek, look}
+use Rattle.meaning.specs.Look.{Answer, answerIn, workSize}
+use Rattle.meaning.specs.Decided.{afterSearch, isCaseAt, seek, look}
 use Rattle.language.specs.Check.{Outcome, candidateLimit}
 use Rattle.language.specs.FileOf.{fileOf}
 use Rattle.language.proofs.Refusals.{refusal-limits}
@@ -59,8 +60,8 @@ possible-fits (Answer.spent next) h = omega arith
 possible-fits (Answer.refused n l) h = (omega arith, h .2)
 
 module _ (F : File) (few : candidates F ≤ candidateLimit) where
-  possible-verdict : (end k : ℕ) (work inst : List ℤ) → end ≤ candidates F → Possible (answerIn (verdict F end k work inst))
-  possible-verdict end k work inst h =
+  possible-search : (end k : ℕ) (work inst : List ℤ) → end ≤ candidates F → Possible (answerIn (afterSearch F end k work inst))
+  possible-search end k work inst h =
       by-test (ltb k end) (λ t. rw t (omega (arith, ltb-true k end t)))
       (λ t. by-test (eqb end (candidates F)) (λ u. rw (t, u) tt) (λ u. rw (t, u) (omega (arith, eqb-false end (candidates F) u))))
 
@@ -71,7 +72,7 @@ module _ (F : File) (few : candidates F ≤ candidateLimit) where
       by-test (ltb (length work) workSize) (λ t. rw t (omega arith, omega arith, omega arith))
       (λ t. by-test (ltb (length inst) (cellCount F)) (λ u. rw (t, u) (omega arith, omega arith, omega arith))
       (λ u. by-test (ltb (candidates F) start) (λ v. rw (t, u, v) (omega arith, omega arith, omega arith))
-      (λ v. rw (t, u, v) (possible-verdict end (seek (candidate F) start (end - start)) work inst (omega arith)))))
+      (λ v. rw (t, u, v) (possible-search end (seek (isCaseAt F) start (end - start)) work inst (omega arith)))))
 
 possible-at : (text : List ℕ) (o : Outcome) → fileOf text ≡ o → (start count : ℕ) (work inst : List ℤ) → Possible (answerIn (lookAt o start count work inst))
 possible-at text (Outcome.refused n l) e start count work inst = let h = refusal-limits text n l e in (h .0, omega arith, h .2)

@@ -13,7 +13,7 @@ use Rattle.value.specs.Bag.{All}
 use Rattle.value.proofs.Decides.{and-parts}
 use Rattle.meaning.specs.Syntax.{Expr, Cond}
 use Rattle.language.specs.Reading.{Read, Reader, done, refuse, andThen, _>>=_, byte, either, byteIf, choose, step, place, expressions, conditions, deepE, deepC, readE, readC}
-use Rattle.language.specs.Frames.{times, field, ending}
+use Rattle.language.specs.Frames.{repeated, field, ending}
 use Rattle.language.specs.Legal.{Limits}
 
 -- what is read has P and leaves W; the number of a refusal is one that bytes have
@@ -98,7 +98,7 @@ good-ending v p (b ∷ bs) = Good.refusal four
 pub fair-ending : {A : Type 0} {P : A → Type 0} (v : A) → P v → Fair Nil (ending v) P
 fair-ending v p = record { good = good-ending v p }
 
-pub fair-times : {A : Type 0} {r : Reader A} {P : A → Type 0} → Fair Anything r P → (n : ℕ) → Fair Anything (times n r) (λ xs. (length xs ≡ n) × All P xs)
+pub fair-times : {A : Type 0} {r : Reader A} {P : A → Type 0} → Fair Anything r P → (n : ℕ) → Fair Anything (repeated n r) (λ xs. (length xs ≡ n) × All P xs)
 fair-times s zero = fair-done (refl, All.nil)
 fair-times s (suc n) = fair-bind s (λ x p. fair-bind (fair-times s n) (λ xs q. fair-done (ap suc (q .0), All.cons p (q .1))))
 

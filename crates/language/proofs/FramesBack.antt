@@ -22,7 +22,7 @@ use Rattle.language.specs.Reading.{Read, Reader, done, refuse, either, b
 use Rattle.language.proofs.Readers.{one}
 use Rattle.language.proofs.PrefixForms.{constant-fits, backE, backC}
 use Rattle.language.specs.Draft.{Draft, Item, relationCount, isView, width, schemasOf}
-use Rattle.language.specs.Frames.{times, maskBits, columnField, tableFrame, pairField, keyFrame, fromList, basicFrame, placeField, groupedFrame, setFrame, goalFrame}
+use Rattle.language.specs.Frames.{repeated, maskBits, columnField, tableFrame, pairField, keyFrame, fromList, basicFrame, placeField, groupedFrame, setFrame, goalFrame}
 use Rattle.language.specs.Legal.{Limits, LegalColumn, LegalTable, LegalPair, KeyFields, LegalFrom, LegalPlace, LegalBasic, LegalGrouped, NamesView, LegalSet, widths}
 use Rattle.language.specs.Written.{columnBytes, maskOf}
 use Rattle.language.proofs.MaskLaws.{mask-small, bits-back}
@@ -39,12 +39,12 @@ pub record Back {A : Type 0} (r : Reader A) (enc : A → List ℕ) (x : A) : Typ
   pub back : (rest : List ℕ) → r (enc x ++ rest) ≡ Read.ok x rest
 
 module _ {A : Type 0} {r : Reader A} {enc : A → List ℕ} where
-  times-back : {xs : List A} → All (Back r enc) xs → (rest : List ℕ) → times (length xs) r (joined (map enc xs) ++ rest) ≡ Read.ok xs rest
+  times-back : {xs : List A} → All (Back r enc) xs → (rest : List ℕ) → repeated (length xs) r (joined (map enc xs) ++ rest) ≡ Read.ok xs rest
   times-back All.nil rest = refl
   times-back (All.cons {x} {xs} p ps) rest = rw (append-assoc (enc x) (joined (map enc xs)) rest, p .back _, times-back ps rest)
 
-  times-end : {xs : List A} → All (Back r enc) xs → times (length xs) r (joined (map enc xs)) ≡ Read.ok xs []
-  times-end {xs} ps = ap (times (length xs) r) (sym (append-nil (joined (map enc xs)))) ∙ times-back ps []
+  times-end : {xs : List A} → All (Back r enc) xs → repeated (length xs) r (joined (map enc xs)) ≡ Read.ok xs []
+  times-end {xs} ps = ap (repeated (length xs) r) (sym (append-nil (joined (map enc xs)))) ∙ times-back ps []
 
 -- ---- each kind
 
@@ -96,7 +96,7 @@ module _ (d : Draft) where
   from-back fs rest h =
       let name : Reader ℕ = byteIf 6 (λ i. ltb i (relationCount d)) in
       rw (limits-true (h .count))
-      (ap (λ (l : List ℕ). times (length fs) name (l ++ rest)) (sym (joined-ones fs)) ∙ times-back (all-map name-back (h .earlier)) rest)
+      (ap (λ (l : List ℕ). repeated (length fs) name (l ++ rest)) (sym (joined-ones fs)) ∙ times-back (all-map name-back (h .earlier)) rest)
 
   pub basic-back : (fs : List ℕ) (w : Cond) (es : List Expr) → LegalBasic (schemasOf d) fs w es
       → basicFrame d (length fs ∷ fs ++ (length es ∷ encodeC w ++ joined (map encodeE es))) ≡ Read.ok (Item.view (View.basic fs w es)) []

@@ -14,7 +14,8 @@ use Rattle.value.proofs.Decides.{by-test}
 use Rattle.meaning.specs.Syntax.{File}
 use Rattle.meaning.specs.Bounds.{wellFormed}
 use Rattle.meaning.specs.Candidates.{cellCount, candidates}
-use Rattle.meaning.specs.Look.{Answer, After, look, workSize, zeros}
+use Rattle.meaning.specs.Look.{Answer, After, workSize, zeros}
+use Rattle.meaning.specs.Decided.{look}
 use Rattle.meaning.specs.Looks.{EveryLook, Ask, Run, run, told, outcome, sumOf, First, NoDatabase, Whole}
 use Rattle.meaning.proofs.Demand3.{look-says, demand-3}
 use Rattle.text.specs.Text.{textOf}

@@ -10,7 +10,7 @@ use lib.ListN.{length, length-map}
 use lib.Signed.{_≤ℤ_}
 use Rattle.value.specs.Bag.{All}
 use Rattle.value.specs.Integer.{low16, high16, highByte, lowByte}
-use Rattle.value.specs.Value.{Value, Column, Between, Within, shown}
+use Rattle.value.specs.Value.{Value, Column, Between, InColumn, shown}
 use Rattle.value.proofs.Fits.{narrow16-held}
 use Rattle.value.proofs.TwosComplement.{bytes-back}
 use Rattle.value.proofs.Values.{all-map, between-wider, cell-number, shown-cell}
@@ -81,11 +81,11 @@ cells-bytes (All.cons {x = v} c cs) =
 
 -- ---- tables
 
-row-cells : {cs : List Column} {r : Row} → All LegalColumn cs → Each Within cs r → All Cell r
+row-cells : {cs : List Column} {r : Row} → All LegalColumn cs → Each InColumn cs r → All Cell r
 row-cells All.nil Each.nil = All.nil
 row-cells (All.cons p ps) (Each.cons q qs) = All.cons (between-wider (p .low) (p .high) (q .bounds)) (row-cells ps qs)
 
-rows-cells : {cs : List Column} {R : List Row} → All LegalColumn cs → All (Each Within cs) R → All Cell (joined R)
+rows-cells : {cs : List Column} {R : List Row} → All LegalColumn cs → All (Each InColumn cs) R → All Cell (joined R)
 rows-cells h All.nil = All.nil
 rows-cells h (All.cons p ps) = all-append (row-cells h p) (rows-cells h ps)
 

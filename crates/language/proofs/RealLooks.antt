@@ -10,7 +10,8 @@ use Rattle.value.proofs.Decides.{by-test}
 use Rattle.value.proofs.Values.{all-map}
 use Rattle.meaning.specs.Syntax.{File}
 use Rattle.meaning.specs.Candidates.{SixteenBits}
-use Rattle.meaning.specs.Look.{Answer, After, workIn, instIn, refusal, workSize, look}
+use Rattle.meaning.specs.Look.{Answer, After, workIn, instIn, workSize}
+use Rattle.meaning.specs.Decided.{refusal, look}
 use Rattle.meaning.specs.Looks.{EveryLook, EveryList, EveryCover, RefusedUnchanged}
 use Rattle.meaning.proofs.Demand3.{look-says as look-says-of-files, demand-3 as demand-3-of-files, stretches as stretches-of-files}
 use Rattle.meaning.proofs.OneLook.{refused-unchanged as refused-unchanged-of-looks}

@@ -20,7 +20,7 @@ use Rattle.language.specs.Reading.{Read, Reader, readE, readC, InLimitsE
 use Rattle.language.proofs.Readers.{Byte, one, Sound, sound-done, sound-refuse, sound-bind, sound-either, sound-byte, sound-byteIf}
 use Rattle.language.proofs.PrefixForms.{constant-limits, soundE, soundC}
 use Rattle.language.specs.Draft.{Draft, Item, relationCount, isTable, isView, width, schemasOf, stageOf}
-use Rattle.language.specs.Frames.{times, field, ending, columnField, tableFrame, pairField, keyFrame, fromList, basicFrame, placeField, groupedFrame, setFrame, goalFrame, frame}
+use Rattle.language.specs.Frames.{repeated, field, ending, columnField, tableFrame, pairField, keyFrame, fromList, basicFrame, placeField, groupedFrame, setFrame, goalFrame, frame}
 use Rattle.language.specs.Legal.{Limits, LegalColumn, LegalTable, LegalPair, KeyFields, LegalFrom, LegalPlace, NamesView, LegalSet, ViewFields}
 use Rattle.language.specs.Written.{columnBytes, tableBytes, keyBytes, setKind, viewBytes, goalBytes}
 use Rattle.language.proofs.FairReaders.{limits-test}
@@ -34,7 +34,7 @@ sound-field lo hi =
     sound-bind sound-byte (λ b _. sound-either (leb lo b && leb b hi) (λ t. sound-done b refl (limits-test lo hi b t)) (λ _. sound-refuse))
 
 pub sound-times : {A : Type 0} {r : Reader A} {enc : A → List ℕ} {P : A → Type 0} → Sound [] r enc P → (n : ℕ)
-    → Sound [] (times n r) (λ xs. joined (map enc xs)) (λ xs. (length xs ≡ n) × All P xs)
+    → Sound [] (repeated n r) (λ xs. joined (map enc xs)) (λ xs. (length xs ≡ n) × All P xs)
 sound-times s zero = sound-done [] refl (refl, All.nil)
 sound-times s (suc n) = sound-bind s (λ x p. sound-bind (sound-times s n) (λ xs q. sound-done (x ∷ xs) refl (ap suc (q .0), All.cons p (q .1))))
 

@@ -11,24 +11,25 @@ use lib.ListN.{length}
 use Rattle.value.proofs.Decides.{by-test}
 use Rattle.meaning.specs.Syntax.{File}
 use Rattle.meaning.specs.Candidates.{cellCount, candidates}
-use Rattle.meaning.specs.Look.{Answer, After, answerIn, numberOf, seek, searched, zeros, workSize, candidate, shownIn, verdict, look}
-use Rattle.meaning.proofs.LookTests.{look-on, verdict-case, verdict-none}
+use Rattle.meaning.specs.Look.{Answer, After, answerIn, numberOf, zeros, workSize}
+use Rattle.meaning.specs.Decided.{seek, searched, isCaseAt, shownIn, afterSearch, look}
+use Rattle.meaning.proofs.LookTests.{look-on, search-case, search-none}
 use Rattle.language.specs.OutputOf.{searchedAll}
 
 module _ (F : File) where
   abbrev pub first : ℕ
-  first = seek (candidate F) 0 (candidates F)
+  first = seek (isCaseAt F) 0 (candidates F)
 
-  searched-first : searched F 0 (candidates F) [] [] ≡ verdict F (candidates F) first [] []
+  searched-first : searched F 0 (candidates F) [] [] ≡ afterSearch F (candidates F) first [] []
   searched-first =
       let n = candidates F in
       let to : min (0 + n) n ≡ n = omega arith in
       let span : n - 0 ≡ n = omega arith in
-      ap (λ end. verdict F end (seek (candidate F) 0 (end - 0)) [] []) to ∙ ap (λ i. verdict F n (seek (candidate F) 0 i) [] []) span
+      ap (λ end. afterSearch F end (seek (isCaseAt F) 0 (end - 0)) [] []) to ∙ ap (λ i. afterSearch F n (seek (isCaseAt F) 0 i) [] []) span
 
   pub all-case : first < candidates F → searchedAll F ≡ Answer.case first
   unfolding searchedAll
-  all-case h = ap answerIn (searched-first ∙ verdict-case F [] [] (candidates F) first h)
+  all-case h = ap answerIn (searched-first ∙ search-case F [] [] (candidates F) first h)
 
   -- at the end of all candidates a search is not spent
   at-end : cond (eqb (candidates F) (candidates F)) Answer.noCase (Answer.spent (candidates F)) ≡ Answer.noCase
@@ -36,7 +37,7 @@ module _ (F : File) where
 
   pub all-none : candidates F ≤ first → searchedAll F ≡ Answer.noCase
   unfolding searchedAll
-  all-none h = ap answerIn (searched-first ∙ verdict-none F [] [] (candidates F) first h) ∙ at-end
+  all-none h = ap answerIn (searched-first ∙ search-none F [] [] (candidates F) first h) ∙ at-end
 
   -- the instance buffer after it
   abbrev pub shownAll : List ℤ → List ℤ
@@ -55,9 +56,9 @@ module _ (F : File) where
       let to : n ≡ min (0 + count) n = omega arith in
       let span : n - 0 ≡ n = omega arith in
       let both : Answer → List ℤ → After = λ a i. After.after a (zeros work) i in
-      look-on F 0 count work inst n whole room from to ∙ ap (λ i. verdict F n (seek (candidate F) 0 i) work inst) span
+      look-on F 0 count work inst n whole room from to ∙ ap (λ i. afterSearch F n (seek (isCaseAt F) 0 i) work inst) span
       ∙ by-test (ltb first n)
       (λ t. let shows : shownIn F first inst ≡ shownAll inst = rw t in
-      verdict-case F work inst n first (ltb-true _ _ t) ∙ ap₂ both (sym (all-case (ltb-true _ _ t))) shows)
+      search-case F work inst n first (ltb-true _ _ t) ∙ ap₂ both (sym (all-case (ltb-true _ _ t))) shows)
       (λ t. let keeps : inst ≡ shownAll inst = rw t in
-      verdict-none F work inst n first (ltb-false _ _ t) ∙ ap₂ both (at-end ∙ sym (all-none (ltb-false _ _ t))) keeps)
+      search-none F work inst n first (ltb-false _ _ t) ∙ ap₂ both (at-end ∙ sym (all-none (ltb-false _ _ t))) keeps)

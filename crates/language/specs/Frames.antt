@@ -15,9 +15,9 @@ use Rattle.meaning.specs.Bounds.{sameWidth, aggregatesFit, bounded, rangesFit}
 use Rattle.language.specs.Draft.{Draft, Item, relationCount, isTable, isView, width, schemasOf}
 
 -- n of the same, one behind the other
-abbrev pub times : {A : Type 0} → ℕ → Reader A → Reader (List A)
-times zero r = done []
-times (suc n) r = r >>= λ x. times n r >>= λ xs. done (x ∷ xs)
+abbrev pub repeated : {A : Type 0} → ℕ → Reader A → Reader (List A)
+repeated zero r = done []
+repeated (suc n) r = r >>= λ x. repeated n r >>= λ xs. done (x ∷ xs)
 
 -- a field from lo to hi, else 5
 abbrev pub field : ℕ → ℕ → Reader ℕ
@@ -40,7 +40,7 @@ columnField = byte >>= λ a. byte >>= λ b. byte >>= λ c. byte >>= λ d.
     either (leZ (bytesZ a b) (bytesZ c d)) (done (record { lo = bytesZ a b; hi = bytesZ c d })) (refuse 5)
 
 abbrev pub tableFrame : Reader Item
-tableFrame = field 0 8 >>= λ r. field 1 4 >>= λ n. byteIf 5 (λ m. ltb m (2 ^ n)) >>= λ m. times n columnField >>= λ cs.
+tableFrame = field 0 8 >>= λ r. field 1 4 >>= λ n. byteIf 5 (λ m. ltb m (2 ^ n)) >>= λ m. repeated n columnField >>= λ cs.
     ending (Item.table (record { rows = r; columns = cs; key = maskBits n m }))
 
 -- ---- 02 foreign key: "child table, parent table, count (1 to 4), then pairs child column, parent column"
@@ -49,7 +49,7 @@ abbrev pub pairField : ℕ → ℕ → Reader Pair
 pairField c p = byteIf 6 (λ i. ltb i c) >>= λ i. byteIf 6 (λ j. ltb j p) >>= λ j. done (record { child = i; parent = j })
 
 abbrev pub keyFrame : Draft → Reader Item
-keyFrame d = byteIf 6 (isTable d) >>= λ c. byteIf 6 (isTable d) >>= λ p. field 1 4 >>= λ n. times n (pairField (width d c) (width d p)) >>= λ ps.
+keyFrame d = byteIf 6 (isTable d) >>= λ c. byteIf 6 (isTable d) >>= λ p. field 1 4 >>= λ n. repeated n (pairField (width d c) (width d p)) >>= λ ps.
     ending (Item.key (record { child = c; parent = p; pairs = ps }))
 
 -- "The parent columns are exactly the parent's key, each once": column i and those after it
@@ -60,12 +60,12 @@ exactlyKey i (k ∷ ks) ps = eqb (countIf (λ p. eqb (p .parent) i) ps) (cond k 
 -- ---- 03 basic view: "from count (1 to 3), that many earlier relations, select count (1 to 8), a where condition, the select expressions"
 
 abbrev pub fromList : Draft → Reader (List ℕ)
-fromList d = field 1 3 >>= λ n. times n (byteIf 6 (λ i. ltb i (relationCount d)))
+fromList d = field 1 3 >>= λ n. repeated n (byteIf 6 (λ i. ltb i (relationCount d)))
 
 abbrev pub basicFrame : Draft → Reader Item
 basicFrame d = fromList d >>= λ fs. field 1 8 >>= λ n.
     let cols = map (width d) fs in
-    readC cols >>= λ w. times n (readE cols) >>= λ es. ending (Item.view (View.basic fs w es))
+    readC cols >>= λ w. repeated n (readE cols) >>= λ es. ending (Item.view (View.basic fs w es))
 
 -- ---- 04 aggregate view: ".. grouping count (0 to 4), select count (1 to 8), where, the grouping columns (from item, column), having, the
 -- select expressions"
@@ -76,7 +76,7 @@ placeField cols = byteIf 6 (λ i. ltb i (length cols)) >>= λ i. byteIf 6 (λ c.
 abbrev pub groupedFrame : Draft → Reader Item
 groupedFrame d = fromList d >>= λ fs. field 0 4 >>= λ g. field 1 8 >>= λ n.
     let cols = map (width d) fs in
-    readC cols >>= λ w. times g (placeField cols) >>= λ gs. readC cols >>= λ h. times n (readE cols) >>= λ es.
+    readC cols >>= λ w. repeated g (placeField cols) >>= λ gs. readC cols >>= λ h. repeated n (readE cols) >>= λ es.
     ending (Item.view (View.grouped fs w gs h es))
 
 -- ---- 05 union, 06 intersection: "two earlier views"

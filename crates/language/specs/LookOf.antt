@@ -6,7 +6,8 @@ use Prim.Native.Nat.{ℕ}
 use lib.Dec.{ltb}
 use lib.IntN.{ℤ}
 use lib.ListN.{length}
-use Rattle.meaning.specs.Look.{Answer, After, refusal, workSize, look}
+use Rattle.meaning.specs.Look.{Answer, After, workSize}
+use Rattle.meaning.specs.Decided.{refusal, look}
 use Rattle.language.specs.Check.{Outcome}
 use Rattle.language.specs.FileOf.{fileOf}
 

@@ -13,7 +13,8 @@ use Rattle.value.specs.Value.{Value, shown}
 use Rattle.meaning.specs.Lists.{joined}
 use Rattle.meaning.specs.Syntax.{File, Row, Database}
 use Rattle.meaning.specs.Candidates.{candidates, database}
-use Rattle.meaning.specs.Look.{Answer, answerIn, searched}
+use Rattle.meaning.specs.Look.{Answer, answerIn}
+use Rattle.meaning.specs.Decided.{searched}
 use Rattle.text.specs.Text.{textOf}
 use Rattle.language.specs.Check.{Outcome}
 use Rattle.language.specs.FileOf.{fileOf}

@@ -15,7 +15,7 @@ use Rattle.catalog.specs.Arrays.{widthAt, boundAt}
 use Rattle.language.specs.Legal.{LegalTable, tableAt}
 use Rattle.store.specs.Rows.{listed}
 use Rattle.store.proofs.Listed.{length-listed}
-use Rattle.look.specs.Cells.{code, rowCodes, tableCodes, allCodes, codesOf, Codes, RowCoded, TableCoded, TablesCoded}
+use Rattle.look.specs.Cells.{code, rowCodes, tableCodes, allCodes, codesOf, Codes, RowCoded, TableCoded, CellsOf}
 
 -- ---- their number
 
@@ -89,12 +89,12 @@ pub table-all : {table rows i columns n all : ℕ} {codes₀ codes : List ℕ} �
     → TableCoded table rows columns n codes₀ all codes
 table-all r e = rw e at r
 
-pub tables-none : (shape codes : List ℕ) → TablesCoded shape 0 codes 0 codes
+pub tables-none : (shape codes : List ℕ) → CellsOf shape 0 codes 0 codes
 unfolding allCodes
 tables-none shape codes = record { size = refl; total = refl; coded = λ h. record { number = refl; there = refl } }
 
-pub tables-more : {shape codes₀ codes after : List ℕ} {t all rows columns r : ℕ} → TablesCoded shape t codes₀ all codes
-    → rows ≡ boundAt shape t → columns ≡ widthAt shape t → TableCoded t rows columns all codes r after → TablesCoded shape (t + 1) codes₀ r after
+pub tables-more : {shape codes₀ codes after : List ℕ} {t all rows columns r : ℕ} → CellsOf shape t codes₀ all codes
+    → rows ≡ boundAt shape t → columns ≡ widthAt shape t → TableCoded t rows columns all codes r after → CellsOf shape (t + 1) codes₀ r after
 unfolding allCodes
 tables-more {shape} {codes₀} {codes} {after} {t} {all} {rows} {columns} {r} a p q b =
     let s : t + 1 ≡ suc t = omega arith in
@@ -106,8 +106,8 @@ tables-more {shape} {codes₀} {codes} {after} {t} {all} {rows} {columns} {r} a 
       coded = λ h. rw (s, ← p, ← q) (b .coded xs (a .coded (omega (arith, h, b .total))) (omega (arith, h, a .size)));
     }
 
-pub tables-all : {shape codes₀ codes : List ℕ} {t tables all : ℕ} → TablesCoded shape t codes₀ all codes → t ≡ tables
-    → TablesCoded shape tables codes₀ all codes
+pub tables-all : {shape codes₀ codes : List ℕ} {t tables all : ℕ} → CellsOf shape t codes₀ all codes → t ≡ tables
+    → CellsOf shape tables codes₀ all codes
 tables-all r e = rw e at r
 
 -- ---- how many they can be

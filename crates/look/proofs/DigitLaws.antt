@@ -10,7 +10,7 @@ use Rattle.value.specs.Value.{Value, Column, size, digit, narrowed}
 use Rattle.value.proofs.Linear.{ints}
 use Rattle.value.proofs.Values.{between-wider, digit-within, held-narrowed}
 use Rattle.meaning.specs.Syntax.{Table, File}
-use Rattle.meaning.specs.Candidates.{cellColumns, product, values}
+use Rattle.meaning.specs.Candidates.{cellColumns, sizesProduct, values}
 use Rattle.meaning.proofs.Elements.{all-append, all-at}
 use Rattle.meaning.proofs.Digits.{size-above}
 use Rattle.meaning.proofs.Numbering.{all-copies}
@@ -22,19 +22,19 @@ use Rattle.catalog.proofs.FileLaws.{noColumn}
 div-product : (k a b : ℕ) → k / (a * b) ≡ k / b / a
 div-product k a b = ap (λ (n : ℕ). k / n) (mul-comm a b) ∙ sym (div-div-eq-div-mul k b a)
 
-product-split : (cs : List Column) (j : ℕ) → product cs ≡ product (take j cs) * product (drop j cs)
-product-split cs zero = sym (one-mul (product cs))
+product-split : (cs : List Column) (j : ℕ) → sizesProduct cs ≡ sizesProduct (take j cs) * sizesProduct (drop j cs)
+product-split cs zero = sym (one-mul (sizesProduct cs))
 product-split [] (suc j) = refl
-product-split (c ∷ cs) (suc j) = ap (λ (n : ℕ). size c * n) (product-split cs j) ∙ sym (mul-assoc (size c) (product (take j cs)) (product (drop j cs)))
+product-split (c ∷ cs) (suc j) = ap (λ (n : ℕ). size c * n) (product-split cs j) ∙ sym (mul-assoc (size c) (sizesProduct (take j cs)) (sizesProduct (drop j cs)))
 
 -- where the quotients are the same, so are the cells before
-pub same-leading : (cs : List Column) (j k l : ℕ) → k / product (drop j cs) ≡ l / product (drop j cs) → take j (values cs k) ≡ take j (values cs l)
+pub same-leading : (cs : List Column) (j k l : ℕ) → k / sizesProduct (drop j cs) ≡ l / sizesProduct (drop j cs) → take j (values cs k) ≡ take j (values cs l)
 same-leading cs zero k l e = refl
 same-leading [] (suc j) k l e = refl
 same-leading (c ∷ cs) (suc j) k l e =
-    let a = product (take j cs) in
-    let b = product (drop j cs) in
-    let q : k / product cs ≡ l / product cs =
+    let a = sizesProduct (take j cs) in
+    let b = sizesProduct (drop j cs) in
+    let q : k / sizesProduct cs ≡ l / sizesProduct cs =
     ap (λ (n : ℕ). k / n) (product-split cs j) ∙ div-product k a b
     ∙ ap (λ (n : ℕ). n / a) e ∙ sym (div-product l a b) ∙ sym (ap (λ (n : ℕ). l / n) (product-split cs j)) in
     ap₂ (λ (n : ℕ) (vs : List Value). digit c (n % size c) ∷ vs) q (same-leading cs j k l e)
@@ -47,12 +47,12 @@ drop-values (c ∷ cs) (suc j) k = drop-values cs j k
 -- ---- one cell more
 
 pub values-step : (cs : List Column) (j k : ℕ) → j < length cs
-    → values (drop j cs) k ≡ digit (getD cs j noColumn) (k / product (drop (suc j) cs) % size (getD cs j noColumn)) ∷ values (drop (suc j) cs) k
+    → values (drop j cs) k ≡ digit (getD cs j noColumn) (k / sizesProduct (drop (suc j) cs) % size (getD cs j noColumn)) ∷ values (drop (suc j) cs) k
 values-step cs j k h = ap (λ (l : List Column). values l k) (drop-cons cs j noColumn h)
 
-pub quotient-step : (cs : List Column) (j k : ℕ) → j < length cs → k / product (drop (suc j) cs) / size (getD cs j noColumn) ≡ k / product (drop j cs)
+pub quotient-step : (cs : List Column) (j k : ℕ) → j < length cs → k / sizesProduct (drop (suc j) cs) / size (getD cs j noColumn) ≡ k / sizesProduct (drop j cs)
 quotient-step cs j k h =
-    sym (ap (λ (l : List Column). k / product l) (drop-cons cs j noColumn h) ∙ div-product k (size (getD cs j noColumn)) (product (drop (suc j) cs)))
+    sym (ap (λ (l : List Column). k / sizesProduct l) (drop-cons cs j noColumn h) ∙ div-product k (size (getD cs j noColumn)) (sizesProduct (drop (suc j) cs)))
 
 -- ---- the columns of a legal file
 

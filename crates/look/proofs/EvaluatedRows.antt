@@ -13,7 +13,7 @@ use Rattle.meaning.specs.Algebra.{MeaningOf}
 use Rattle.meaning.specs.Bounds.{wellFormed}
 use Rattle.meaning.specs.Candidates.{database}
 use Rattle.meaning.specs.Cases.{Case}
-use Rattle.meaning.specs.Look.{candidate}
+use Rattle.meaning.specs.Decided.{isCaseAt}
 use Rattle.meaning.proofs.Demand2.{cases}
 use Rattle.meaning.proofs.Relations.{rows-mean}
 use Rattle.language.specs.Check.{Outcome}
@@ -24,8 +24,8 @@ use Rattle.catalog.specs.declared.plan.Plan.{Plan}
 use Rattle.language.proofs.TextLaws.{accepted-text}
 use Rattle.store.specs.Layout.{area}
 use Rattle.cases.specs.Needs.{Wants, NeedsOf}
-use Rattle.look.specs.Cells.{TablesCoded}
-use Rattle.look.specs.Moves.{Placed, Moved}
+use Rattle.look.specs.Cells.{CellsOf}
+use Rattle.look.specs.Moves.{CandidatePut, Moved}
 use Rattle.look.specs.Scans.{Setting}
 use Rattle.look.specs.Evaluations.{Prepared, Evaluated, Judged, RowsMean}
 use Rattle.look.proofs.Standing.{digits-given}
@@ -40,9 +40,9 @@ module _ (text : List ℕ) (F : File) (e : fileOf text ≡ Outcome.accepted F) w
 
   -- any candidate is prepared by the calls of a look up to its first test
   pub placed : (p : Plan) {k : ℕ} {codes counts needed asked : List ℕ} {n : ℕ} {work work′ : List ℤ} → Plans (fileOf text) p
-      → TablesCoded (p .shape) (p .outline .tables) (replicate 512 0) n codes → TablesCounted (p .shape) (p .outline .tables) (replicate 16 0) counts
+      → CellsOf (p .shape) (p .outline .tables) (replicate 512 0) n codes → TablesCounted (p .shape) (p .outline .tables) (replicate 16 0) counts
       → NeedsOf (p .bytes) (p .starts) (p .outline) (p .goal) (replicate 16 0) (replicate 16 0) needed asked
-      → area ≤ length work → Placed (p .shape) (p .ends) codes n k work work′ → Prepared text F k
+      → area ≤ length work → CandidatePut (p .shape) (p .ends) codes n k work work′ → Prepared text F k
   placed p {counts = counts} {needed} {asked} {work′ = work′} c D C N whole P =
       let M = planned c .file in
       record {
@@ -65,7 +65,7 @@ module _ (text : List ℕ) (F : File) (e : fileOf text ≡ Outcome.accepted F) w
     set-up = setting (plan-of .file) (plan-of .goal) (P .flagged)
 
     -- the next candidate is prepared by the test of this one and the move to that one
-    pub moved : {r : Bool} {codes counts′ refuted′ : List ℕ} {n next : ℕ} {work′ work″ : List ℤ} → TablesCoded (P .plan .shape) (P .plan .outline .tables) (replicate 512 0) n codes
+    pub moved : {r : Bool} {codes counts′ refuted′ : List ℕ} {n next : ℕ} {work′ work″ : List ℤ} → CellsOf (P .plan .shape) (P .plan .outline .tables) (replicate 512 0) n codes
         → Judged P r counts′ refuted′ work′ → Moved (P .plan .shape) (P .plan .ends) codes n k next work′ work″ → Prepared text F next
     moved {counts′ = counts′} {refuted′} {work″ = work″} D J M = record {
       plan = P .plan;
@@ -90,7 +90,7 @@ module _ (text : List ℕ) (F : File) (e : fileOf text ≡ Outcome.accepted F) w
     -- "a database is a positive or negative case exactly by Definitions 1 to 4"
     pub evaluated-case : {r : Bool} {counts′ refuted′ : List ℕ} {work′ : List ℤ} → Judged P r counts′ refuted′ work′
         → (r ≡ true) ↔ Case F (database F k) (F .goal)
-    unfolding candidate
+    unfolding isCaseAt
     evaluated-case J =
         let same = judged J F set-up (P .stands) in
         let decided = cases F well-formed (database F k) in

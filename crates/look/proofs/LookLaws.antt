@@ -12,8 +12,9 @@ use Rattle.value.specs.Value.{Value, shown}
 use Rattle.value.proofs.Decides.{by-test}
 use Rattle.meaning.specs.Syntax.{File}
 use Rattle.meaning.specs.Candidates.{candidates, cells}
-use Rattle.meaning.specs.Look.{Answer, After, seek, zeros, workSize, refusal, candidate, shownIn, verdict, look}
-use Rattle.meaning.proofs.LookTests.{look-short, look-late, look-on, verdict-case, verdict-none}
+use Rattle.meaning.specs.Look.{Answer, After, zeros, workSize}
+use Rattle.meaning.specs.Decided.{seek, refusal, isCaseAt, shownIn, afterSearch, look}
+use Rattle.meaning.proofs.LookTests.{look-short, look-late, look-on, search-case, search-none}
 use Rattle.language.specs.Check.{Outcome}
 use Rattle.language.specs.FileOf.{fileOf}
 use Rattle.checker.specs.Plans.{Plans}
@@ -21,11 +22,11 @@ use Rattle.catalog.specs.FileIn.{FileIn, goalOf}
 use Rattle.catalog.specs.declared.outline.Outline.{Outline}
 use Rattle.catalog.specs.declared.plan.Goal.{Goal}
 use Rattle.catalog.specs.declared.plan.Plan.{Plan}
-use Rattle.look.specs.Cells.{codesOf, cellsIn, TablesCoded}
+use Rattle.look.specs.Cells.{codesOf, cellsIn, CellsOf}
 use Rattle.look.specs.Moves.{Digits}
-use Rattle.look.specs.Scans.{Searches}
+use Rattle.look.specs.Scans.{Searched}
 use Rattle.look.specs.Buffers.{Shows}
-use Rattle.look.specs.Looks.{answerOf, Concludes, Finds, LooksAt}
+use Rattle.look.specs.Looks.{answerOf, Concludes, Looked, LooksAt}
 use Rattle.language.specs.LookOf.{lookAt, lookOf}
 use Rattle.look.specs.declared.Answer.{Answer as Answered}
 use Rattle.look.specs.declared.Answer.the-variants.{Case, NoCase, Spent, Refused}
@@ -45,44 +46,44 @@ zeros-same : (a b : List ℤ) → length a ≡ length b → zeros a ≡ zeros b
 zeros-same a b e = ap (λ n. replicate n (pos 0)) e
 
 digits : {F : File} {bytes starts shape : List ℕ} {ends : List ℤ} {o : Outline} {m : ℕ} {codes : List ℕ} → FileIn F bytes starts shape ends o
-    → TablesCoded shape (o .tables) (replicate 512 0) m codes → Digits F shape ends codes m
+    → CellsOf shape (o .tables) (replicate 512 0) m codes → Digits F shape ends codes m
 digits M C = digits-given M C refl
 
 pub finds-short : {bytes starts shape : List ℕ} {ends : List ℤ} {o : Outline} {g : Goal} {n start count : ℕ} {work inst : List ℤ} {m : ℕ} {codes : List ℕ}
-    → TablesCoded shape (o .tables) (replicate 512 0) m codes → length inst < m → Finds bytes starts shape ends o g n start count work inst (Refused 12 0) work inst
+    → CellsOf shape (o .tables) (replicate 512 0) m codes → length inst < m → Looked bytes starts shape ends o g n start count work inst (Refused 12 0) work inst
 finds-short {start = start} {count} {work} {inst} C h = record {
   finds = λ F M f e whole. sym (look-short F start count work inst whole (omega (arith, digits M C .number)));
 }
 
 pub finds-late : {bytes starts shape : List ℕ} {ends : List ℤ} {o : Outline} {g : Goal} {n start count : ℕ} {work inst : List ℤ} {m : ℕ} {codes : List ℕ}
-    → TablesCoded shape (o .tables) (replicate 512 0) m codes → m ≤ length inst → n < start
-    → Finds bytes starts shape ends o g n start count work inst (Refused 13 0) work inst
+    → CellsOf shape (o .tables) (replicate 512 0) m codes → m ≤ length inst → n < start
+    → Looked bytes starts shape ends o g n start count work inst (Refused 13 0) work inst
 finds-late {start = start} {count} {work} {inst} C h l = record {
   finds = λ F M f e whole. sym (look-late F start count work inst whole (omega (arith, digits M C .number)) (omega arith));
 }
 
 -- the search of a look that is not refused has come to k
 pub record Sought (bytes starts shape : List ℕ) (ends : List ℤ) (o : Outline) (g : Goal) (n start count : ℕ) (work inst : List ℤ) (codes : List ℕ) (m end k : ℕ) (work₁ : List ℤ) : Type 0 where
-  pub coded : TablesCoded shape (o .tables) (replicate 512 0) m codes
+  pub coded : CellsOf shape (o .tables) (replicate 512 0) m codes
   pub room : m ≤ length inst
   pub from : start ≤ n
   pub to : end ≡ min (start + count) n
-  pub search : Searches bytes starts shape ends o g codes m start end work k work₁
+  pub search : Searched bytes starts shape ends o g codes m start end work k work₁
 
 module _ {bytes starts shape : List ℕ} {ends : List ℤ} {o : Outline} {g : Goal} {n start count : ℕ} {work inst : List ℤ} {codes : List ℕ} {m end k : ℕ} {work₁ : List ℤ}
     (S : Sought bytes starts shape ends o g n start count work inst codes m end k work₁) where
   module _ (F : File) (M : FileIn F bytes starts shape ends o) (f : goalOf g ≡ F .goal) (e : n ≡ candidates F) (whole : workSize ≤ length work) where
-    found : (k ≡ seek (candidate F) start (end - start)) × (k < end → cellsIn work₁ (codesOf F) ≡ cells F k)
+    found : (k ≡ seek (isCaseAt F) start (end - start)) × (k < end → cellsIn work₁ (codesOf F) ≡ cells F k)
     found = S .search .found F M f (digits M (S .coded)) whole (omega (arith, S .from, S .to))
 
-    looks : look F start count work inst ≡ verdict F end k work inst
+    looks : look F start count work inst ≡ afterSearch F end k work inst
     looks =
         look-on F start count work inst end whole (omega (arith, S .room, digits M (S .coded) .number)) (omega (arith, S .from))
         (S .to ∙ ap (min (start + count)) e)
-        ∙ ap (λ i. verdict F end i work inst) (sym (found .0))
+        ∙ ap (λ i. afterSearch F end i work inst) (sym (found .0))
 
   pub finds-case : {work₂ inst₂ : List ℤ} → k < end → Shows codes m work₁ inst inst₂ → work₂ ≡ zeros work₁
-      → Finds bytes starts shape ends o g n start count work inst (Case k) work₂ inst₂
+      → Looked bytes starts shape ends o g n start count work inst (Case k) work₂ inst₂
   finds-case {work₂} {inst₂} h W z = record {
     finds = λ F M f e whole.
         let D : Digits F shape ends codes m = digits M (S .coded) in
@@ -90,17 +91,17 @@ module _ {bytes starts shape : List ℕ} {ends : List ℤ} {o : Outline} {g : Go
         let i : inst₂ ≡ shownIn F k inst =
         W .shows (codesOf F) (D .codes-are) (S .room)
         ∙ ap₂ (λ (a : List Value) (j : ℕ). map shown a ++ drop j inst) (found F M f e whole .1 h) (sym (D .number)) in
-        ap₂ (λ (a b : List ℤ). After.after (Answer.case k) a b) w i ∙ sym (looks F M f e whole ∙ verdict-case F work inst end k h);
+        ap₂ (λ (a b : List ℤ). After.after (Answer.case k) a b) w i ∙ sym (looks F M f e whole ∙ search-case F work inst end k h);
   }
 
   pub finds-none : {work₂ : List ℤ} {r : Answered} → end ≤ k → work₂ ≡ zeros work₁ → Concludes end n r
-      → Finds bytes starts shape ends o g n start count work inst r work₂ inst
+      → Looked bytes starts shape ends o g n start count work inst r work₂ inst
   finds-none {work₂} {r} h z R = record {
     finds = λ F M f e whole.
         let w : work₂ ≡ zeros work = z ∙ zeros-same work₁ work (S .search .length-kept) in
         let a : answerOf r ≡ cond (eqb end (candidates F)) Answer.noCase (Answer.spent end) =
         R .concludes ∙ ap (λ j. cond (eqb end j) Answer.noCase (Answer.spent end)) e in
-        ap₂ (λ (a : Answer) (b : List ℤ). After.after a b inst) a w ∙ sym (looks F M f e whole ∙ verdict-none F work inst end k h);
+        ap₂ (λ (a : Answer) (b : List ℤ). After.after a b inst) a w ∙ sym (looks F M f e whole ∙ search-none F work inst end k h);
   }
 
 -- ---- a look at a plan
@@ -129,7 +130,7 @@ module _ {p : Plan} {start count : ℕ} {work inst : List ℤ} where
   }
 
   pub at-file : {r : Answered} {work′ inst′ : List ℤ} → length work′ ≡ length work → length inst′ ≡ length inst → workSize ≤ length work
-      → p .number ≡ 0 → Finds (p .bytes) (p .starts) (p .shape) (p .ends) (p .outline) (p .goal) (p .candidates) start count work inst r work′ inst′
+      → p .number ≡ 0 → Looked (p .bytes) (p .starts) (p .shape) (p .ends) (p .outline) (p .goal) (p .candidates) start count work inst r work′ inst′
       → LooksAt p start count work inst r work′ inst′
   at-file w i whole z L = record {
     work-size = w;

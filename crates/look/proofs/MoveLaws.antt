@@ -11,14 +11,14 @@ use mir.Syntax.{w32}
 use mir.Val.{Fits}
 use Rattle.value.specs.Value.{Value, Column, size, digit, narrowed}
 use Rattle.meaning.specs.Syntax.{File}
-use Rattle.meaning.specs.Candidates.{cellColumns, product, values, cells}
+use Rattle.meaning.specs.Candidates.{cellColumns, sizesProduct, values, cells}
 use Rattle.meaning.proofs.ListSteps.{map-at}
 use Rattle.catalog.specs.Arrays.{columnAt}
 use Rattle.catalog.proofs.FileLaws.{noColumn}
 use Rattle.store.specs.Layout.{area, putCell}
 use Rattle.store.proofs.CellLaws.{put-cell-length}
 use Rattle.look.specs.Cells.{codesOf, cellsIn}
-use Rattle.look.specs.Moves.{codeColumn, Digits, DigitPut, Placed, Moved}
+use Rattle.look.specs.Moves.{codeColumn, Digits, DigitPut, CandidatePut, Moved}
 use Rattle.look.specs.declared.moves.Quotients.{Quotients}
 use Rattle.look.proofs.Distinct.{codes-rise, rising-within, cell-put}
 use Rattle.look.proofs.DigitLaws.{same-leading, drop-values, values-step, quotient-step, column-legal, legal-size, digit-held}
@@ -65,8 +65,8 @@ length-cellsIn work (x ∷ xs) = ap suc (length-cellsIn work xs)
 
 -- from the cell j on the cells are those of `next`, before it they are as they were, and the quotients are of the digits before it
 pub record Going (F : File) (k next : ℕ) (before : List Value) (work : List ℤ) (j : ℕ) (q : Quotients) : Type 0 where
-  pub old : q .old ≡ k / product (drop j (cellColumns (F .tables)))
-  pub new : q .new ≡ next / product (drop j (cellColumns (F .tables)))
+  pub old : q .old ≡ k / sizesProduct (drop j (cellColumns (F .tables)))
+  pub new : q .new ≡ next / sizesProduct (drop j (cellColumns (F .tables)))
   pub first : take j (cellsIn work (codesOf F)) ≡ take j before
   pub rest : drop j (cellsIn work (codesOf F)) ≡ values (drop j (cellColumns (F .tables))) next
 
@@ -84,8 +84,8 @@ going-first {shape} {ends} {codes} {n} k next work₀ F D =
     let f : drop n (cellsIn work₀ (codesOf F)) ≡ [] =
     drop-of-length-le (cellsIn work₀ (codesOf F)) {i = n} (omega (arith, length-cellsIn work₀ (codesOf F), D .codes-are .number)) in
     record {
-      old = sym (ap (λ (l : List Column). k / product l) e ∙ div-one k);
-      new = sym (ap (λ (l : List Column). next / product l) e ∙ div-one next);
+      old = sym (ap (λ (l : List Column). k / sizesProduct l) e ∙ div-one k);
+      new = sym (ap (λ (l : List Column). next / sizesProduct l) e ∙ div-one next);
       first = refl;
       rest = f ∙ sym (ap (λ (l : List Column). values l next) e);
     }
@@ -112,9 +112,9 @@ going-next {shape} {ends} {codes} {n} {k} {next} F {before} {work} {work′} {i}
     let P : DigitPut shape ends x q work r work′ = subst (λ (y : ℕ). DigitPut shape ends y q work r work′) ex p in
     let ec : codeColumn shape ends x ≡ c = sym (map-at (codeColumn shape ends) xs i 0 noColumn lx) ∙ ap (λ (l : List Column). getD l i noColumn) (D .columns) in
     let d = P .put c (rising-within R i lx .1) ec (legal-size c L) in
-    let ev : narrowed (digit c (q .new % size c)) ≡ digit c (next / product (drop (suc i) cs) % size c) =
+    let ev : narrowed (digit c (q .new % size c)) ≡ digit c (next / sizesProduct (drop (suc i) cs) % size c) =
     digit-held c L (q .new) ∙ ap (λ (m : ℕ). digit c (m % size c)) (g .new) in
-    let v = digit c (next / product (drop (suc i) cs) % size c) in
+    let v = digit c (next / sizesProduct (drop (suc i) cs) % size c) in
     let ew : cellsIn work′ xs ≡ set (cellsIn work xs) i v =
     ap (λ (w : List ℤ). cellsIn w xs) (d .0) ∙ cell-put work xs i (narrowed (digit c (q .new % size c))) R lx a ∙ ap (set (cellsIn work xs) i) ev in
     let ll : i < length (cellsIn work xs) = omega (arith, length-cellsIn work xs) in
@@ -172,5 +172,5 @@ module _ {shape : List ℕ} {ends : List ℤ} {codes : List ℕ} {n k next : ℕ
   }
 
   pub placed-all : {work : List ℤ} {j : ℕ} {q : Quotients} → j ≤ 0 → Under shape ends codes n k next work₀ work j q
-      → Placed shape ends codes n next work₀ work
+      → CandidatePut shape ends codes n next work₀ work
   placed-all h u = record { length-kept = u .length-kept; placed = λ F D a. all-there F (omega arith) (u .going F D a) }

@@ -14,9 +14,8 @@ use Rattle.value.proofs.Decides.{by-test}
 use Rattle.value.proofs.Values.{all-map}
 use Rattle.meaning.specs.Syntax.{File, Row}
 use Rattle.meaning.specs.Evaluation.{missing}
-use Rattle.meaning.specs.Cases.{isCase}
+use Rattle.meaning.specs.Decided.{isCase, isCaseAt}
 use Rattle.meaning.specs.Candidates.{cells, database}
-use Rattle.meaning.specs.Look.{candidate}
 use Rattle.meaning.proofs.Demand3.{every-database}
 use Rattle.meaning.proofs.Elements.{map-same}
 use Rattle.meaning.proofs.Seeks.{sought-one}
@@ -32,8 +31,8 @@ use Rattle.cases.specs.Needs.{GoalIn, Covers, NeedsOf}
 use Rattle.cases.specs.Judgement.{Ready, TablesKept, IsCase}
 use Rattle.cases.proofs.Preparing.{counts-are}
 use Rattle.look.specs.Cells.{codesOf, cellAt, cellsIn}
-use Rattle.look.specs.Moves.{Digits, Placed, Moved}
-use Rattle.look.specs.Scans.{Setting, At, Tests, Scans, Searches}
+use Rattle.look.specs.Moves.{Digits, CandidatePut, Moved}
+use Rattle.look.specs.Scans.{Setting, At, Tested, Scans, Searched}
 use Rattle.look.proofs.Distinct.{Rising, rising-within, codes-inside}
 use Rattle.look.proofs.Standing.{tables-stand}
 
@@ -66,7 +65,7 @@ module _ {F : File} (L : Legal F) where
 -- a candidate that was placed
 pub placed-at : {F : File} {bytes starts shape : List ℕ} {ends : List ℤ} {o : Outline} {codes : List ℕ} {n k : ℕ} {work work₁ : List ℤ} {counts : List ℕ}
     → FileIn F bytes starts shape ends o → Digits F shape ends codes n → TablesCounted shape (o .tables) (replicate 16 0) counts
-    → area ≤ length work → Placed shape ends codes n k work work₁ → At F counts (replicate 16 0) work₁ k
+    → area ≤ length work → CandidatePut shape ends codes n k work work₁ → At F counts (replicate 16 0) work₁ k
 placed-at {F} G D C whole P = record {
   counts-size = C .size;
   refuted-size = refl;
@@ -112,11 +111,11 @@ ready {F} {counts = counts} {work = work} {k = k} P A = record {
 
 module _ {bytes starts shape needed asked : List ℕ} {o : Outline} {g : Goal} {k : ℕ} {counts refuted : List ℕ} {work : List ℤ} {counts′ refuted′ : List ℕ} {work′ : List ℤ} {b : Bool}
     (J : IsCase bytes starts shape needed asked o g counts refuted work b counts′ refuted′ work′) where
-  pub judged : (F : File) {ends : List ℤ} → Setting F bytes starts shape ends needed asked o g → At F counts refuted work k → b ≡ candidate F k
-  unfolding candidate
+  pub judged : (F : File) {ends : List ℤ} → Setting F bytes starts shape ends needed asked o g → At F counts refuted work k → b ≡ isCaseAt F k
+  unfolding isCaseAt
   judged F P A = subst (λ x. Ready F x (database F k) needed asked counts refuted work → b ≡ isCase F x (database F k)) (P .goal) (J .case (P .file)) (ready P A)
 
-  pub tests-case : k < 18446744073709551615 → b ≡ true → Tests bytes starts shape needed asked o g k counts refuted work k counts′ refuted′ work′
+  pub tests-case : k < 18446744073709551615 → b ≡ true → Tested bytes starts shape needed asked o g k counts refuted work k counts′ refuted′ work′
   tests-case l e = record {
     kept = J .kept;
     refuted-size = J .refuted-size;
@@ -129,7 +128,7 @@ module _ {bytes starts shape needed asked : List ℕ} {o : Outline} {g : Goal} {
     };
   }
 
-  pub tests-none : k < 18446744073709551615 → b ≡ false → Tests bytes starts shape needed asked o g k counts refuted work (k + 1) counts′ refuted′ work′
+  pub tests-none : k < 18446744073709551615 → b ≡ false → Tested bytes starts shape needed asked o g k counts refuted work (k + 1) counts′ refuted′ work′
   tests-none l e = record {
     kept = J .kept;
     refuted-size = J .refuted-size;
@@ -138,7 +137,7 @@ module _ {bytes starts shape needed asked : List ℕ} {o : Outline} {g : Goal} {
     passed = λ F P A start. record {
       follows = omega arith;
       hit = λ q. absurd (omega arith);
-      over = λ j a c p. let q : j ≡ k = omega arith in never (subst (λ i. candidate F i ≡ true) q p) (sym (judged F P A) ∙ e);
+      over = λ j a c p. let q : j ≡ k = omega arith in never (subst (λ i. isCaseAt F i ≡ true) q p) (sym (judged F P A) ∙ e);
     };
   }
 
@@ -153,7 +152,7 @@ pub record Scanned (bytes starts shape : List ℕ) (ends : List ℤ) (needed ask
   pub refuted-size : length refuted′ ≡ length refuted
   pub here : (F : File) → Setting F bytes starts shape ends needed asked o g → Digits F shape ends codes n → At F counts refuted work start → At F counts′ refuted′ work′ k
   pub none : (F : File) → Setting F bytes starts shape ends needed asked o g → Digits F shape ends codes n → At F counts refuted work start
-      → (j : ℕ) → start ≤ j → j < k → candidate F j ≡ false
+      → (j : ℕ) → start ≤ j → j < k → isCaseAt F j ≡ false
 
 module _ {bytes starts shape : List ℕ} {ends : List ℤ} {needed asked : List ℕ} {o : Outline} {g : Goal} {codes : List ℕ} {n start : ℕ} {counts refuted : List ℕ} {work : List ℤ} where
   pub scanned-none : Scanned bytes starts shape ends needed asked o g codes n start counts refuted work start counts refuted work
@@ -167,7 +166,7 @@ module _ {bytes starts shape : List ℕ} {ends : List ℤ} {needed asked : List 
   }
 
   module _ {k r : ℕ} {counts₁ refuted₁ : List ℕ} {work₁ : List ℤ} (S : Scanned bytes starts shape ends needed asked o g codes n start counts refuted work k counts₁ refuted₁ work₁)
-      {counts₂ refuted₂ : List ℕ} {work₂ : List ℤ} (T : Tests bytes starts shape needed asked o g k counts₁ refuted₁ work₁ r counts₂ refuted₂ work₂) where
+      {counts₂ refuted₂ : List ℕ} {work₂ : List ℤ} (T : Tested bytes starts shape needed asked o g k counts₁ refuted₁ work₁ r counts₂ refuted₂ work₂) where
     pub scanned-more : (r ≡ k → ⊥) → {work₃ : List ℤ} → Moved shape ends codes n k r work₂ work₃
         → Scanned bytes starts shape ends needed asked o g codes n start counts refuted work r counts₂ refuted₂ work₃
     scanned-more d {work₃} M = record {
@@ -178,7 +177,7 @@ module _ {bytes starts shape : List ℕ} {ends : List ℤ} {needed asked : List 
       here = λ F P D A. moved-at (P .file) D (T .kept) (T .refuted-size) M (S .here F P D A);
       none = λ F P D A j a b. by-test (ltb j k)
           (λ e. S .none F P D A j a (ltb-true j k e))
-          (λ e. let h = ltb-false j k e in by-test (candidate F j)
+          (λ e. let h = ltb-false j k e in by-test (isCaseAt F j)
           (λ c. let (i, si, ik, ci) = T .passed F P (S .here F P D A) start .over j h b c in never ci (S .none F P D A i si ik))
           (λ c. c));
     }
@@ -188,7 +187,7 @@ module _ {bytes starts shape : List ℕ} {ends : List ℤ} {needed asked : List 
       length-kept = T .kept .size ∙ S .length-kept;
       found = λ F P D A h.
           let X = S .here F P D A in (
-            sought-one (candidate F) start (end - start) k (record {
+            sought-one (isCaseAt F) start (end - start) k (record {
               from = S .from;
               to = omega arith;
               none = S .none F P D A;
@@ -203,7 +202,7 @@ module _ {bytes starts shape : List ℕ} {ends : List ℤ} {needed asked : List 
   scanned-all {k} {end} S l = record {
     length-kept = S .length-kept;
     found = λ F P D A h. (
-      sought-one (candidate F) start (end - start) end (record {
+      sought-one (isCaseAt F) start (end - start) end (record {
         from = h;
         to = omega arith;
         none = λ j a b. S .none F P D A j a (omega arith);
@@ -217,8 +216,8 @@ module _ {bytes starts shape : List ℕ} {ends : List ℤ} {needed asked : List 
 
 pub searches : {bytes starts shape : List ℕ} {ends : List ℤ} {o : Outline} {g : Goal} {codes : List ℕ} {n start end : ℕ} {work work₁ work₂ : List ℤ} {counts needed asked : List ℕ} {r : ℕ}
     → TablesCounted shape (o .tables) (replicate 16 0) counts → NeedsOf bytes starts o g (replicate 16 0) (replicate 16 0) needed asked
-    → Placed shape ends codes n start work work₁ → Scans bytes starts shape ends needed asked o g codes n start end counts (replicate 16 0) work₁ r work₂
-    → Searches bytes starts shape ends o g codes n start end work r work₂
+    → CandidatePut shape ends codes n start work work₁ → Scans bytes starts shape ends needed asked o g codes n start end counts (replicate 16 0) work₁ r work₂
+    → Searched bytes starts shape ends o g codes n start end work r work₂
 searches {shape = shape} C N P S = record {
   length-kept = S .length-kept ∙ P .length-kept;
   found = λ F M e D whole h. S .found F (setting M e N) D (placed-at M D C whole P) h;

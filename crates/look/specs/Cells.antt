@@ -56,7 +56,7 @@ pub record TableCoded (table rows columns n : ℕ) (codes : List ℕ) (r : ℕ) 
   pub total : r ≡ n + rows * columns
   pub coded : (xs : List ℕ) → Codes codes n xs → r ≤ length codes → Codes codes′ r (xs ++ tableCodes table columns rows)
 
-pub record TablesCoded (shape : List ℕ) (tables : ℕ) (codes : List ℕ) (r : ℕ) (codes′ : List ℕ) : Type 0 where
+pub record CellsOf (shape : List ℕ) (tables : ℕ) (codes : List ℕ) (r : ℕ) (codes′ : List ℕ) : Type 0 where
   pub size : length codes′ ≡ length codes
   pub total : r ≡ length (allCodes (boundAt shape) (widthAt shape) tables)
   pub coded : r ≤ length codes → Codes codes′ r (allCodes (boundAt shape) (widthAt shape) tables)

@@ -32,7 +32,7 @@ pub record Prepared (text : List ℕ) (F : File) (k : ℕ) : Type 0 where
   pub checked : Plans (fileOf text) plan
   -- needs::needs_of, where no flag was set
   pub flagged : NeedsOf (plan .bytes) (plan .starts) (plan .outline) (plan .goal) (replicate 16 0) (replicate 16 0) needed asked
-  -- outline::count_tables and moves::place; of a later candidate, judgement::is_case of the one before and moves::move_to
+  -- outline::count_tables and moves::put_candidate; of a later candidate, judgement::is_case of the one before and moves::move_to
   pub stands : At F counts refuted work k
 
 module _ {text : List ℕ} {F : File} {k : ℕ} (P : Prepared text F k) where

@@ -8,7 +8,8 @@ use lib.IntN.{ℤ}
 use lib.ListN.{length}
 use Rattle.meaning.specs.Syntax.{File}
 use Rattle.meaning.specs.Candidates.{candidates}
-use Rattle.meaning.specs.Look.{Answer, After, workSize, refusal, look}
+use Rattle.meaning.specs.Look.{Answer, After, workSize}
+use Rattle.meaning.specs.Decided.{refusal, look}
 use Rattle.catalog.specs.FileIn.{FileIn, PlanOf, goalOf}
 use Rattle.catalog.specs.declared.outline.Outline.{Outline}
 use Rattle.catalog.specs.declared.plan.Goal.{Goal}
@@ -28,7 +29,7 @@ answerOf (Refused n l) = Answer.refused n l
 pub record Concludes (end n : ℕ) (r : Answered) : Type 0 where
   pub concludes : answerOf r ≡ cond (eqb end n) Answer.noCase (Answer.spent end)
 
-pub record Finds (bytes starts shape : List ℕ) (ends : List ℤ) (o : Outline) (g : Goal) (n start count : ℕ) (work inst : List ℤ) (r : Answered) (work′ inst′ : List ℤ) : Type 0 where
+pub record Looked (bytes starts shape : List ℕ) (ends : List ℤ) (o : Outline) (g : Goal) (n start count : ℕ) (work inst : List ℤ) (r : Answered) (work′ inst′ : List ℤ) : Type 0 where
   pub finds : (F : File) → FileIn F bytes starts shape ends o → goalOf g ≡ F .goal → n ≡ candidates F → workSize ≤ length work
       → After.after (answerOf r) work′ inst′ ≡ look F start count work inst
 

@@ -30,7 +30,7 @@ pub record DigitPut (shape : List ℕ) (ends : List ℤ) (x : ℕ) (q : Quotient
   pub put : (c : Column) → x < 512 → codeColumn shape ends x ≡ c → 0 < size c
       → (work′ ≡ putCell work (x / 32) (x / 4 % 8) (x % 4) (narrowed (digit c (q .new % size c)))) × (r .old ≡ q .old / size c) × (r .new ≡ q .new / size c)
 
-pub record Placed (shape : List ℕ) (ends : List ℤ) (codes : List ℕ) (n k : ℕ) (work work′ : List ℤ) : Type 0 where
+pub record CandidatePut (shape : List ℕ) (ends : List ℤ) (codes : List ℕ) (n k : ℕ) (work work′ : List ℤ) : Type 0 where
   pub length-kept : length work′ ≡ length work
   pub placed : (F : File) → Digits F shape ends codes n → area ≤ length work → cellsIn work′ (codesOf F) ≡ cells F k
 

@@ -1,7 +1,7 @@
 // The cells of the tables in the order of a candidate's digits. A cell goes by one number, its code, in which a table has 32 and a row 4.
 use catalog::arrays;
 ghost use Prim.Native.Nat.{_≤_};
-ghost use Rattle.look.specs.Cells.{RowCoded, TableCoded, TablesCoded};
+ghost use Rattle.look.specs.Cells.{RowCoded, TableCoded, CellsOf};
 
 // The codes of a row's cells, behind n codes. The number of codes then.
 fn add_row(table: u8, row: u8, columns: u8, n: u32, codes: &mut [u16]) -> u32
@@ -35,7 +35,7 @@ fn add_table(table: u8, rows: u8, columns: u8, n: u32, codes: &mut [u16]) -> u32
 // The codes of all cells, and their number.
 // Refused: the first table left out; columns for rows.
 pub fn cells_of(shape: &[u8], tables: u8, codes: &mut [u16]) -> u32
-    ensures { λ r. ⌜ TablesCoded (now (shape .entry)) tables (now (codes .entry)) r (now (codes .exit)) ⌝ }
+    ensures { λ r. ⌜ CellsOf (now (shape .entry)) tables (now (codes .entry)) r (now (codes .exit)) ⌝ }
 {
     let mut all: u32 = 0;
     let mut t: u8 = 0;

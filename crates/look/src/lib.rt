@@ -10,7 +10,7 @@ use catalog::plan::Plan;
 use checker::plan;
 ghost use mathlib.Core.Path.{_≡_};
 ghost use Rattle.meaning.specs.Look.{After};
-ghost use Rattle.look.specs.Looks.{answerOf, Concludes, Finds, LooksAt};
+ghost use Rattle.look.specs.Looks.{answerOf, Concludes, Looked, LooksAt};
 ghost use Rattle.language.specs.LookOf.{lookOf};
 
 // The work area has at least this many numbers.
@@ -48,7 +48,7 @@ fn looked(
     work: &mut [i32],
     instance: &mut [i16],
 ) -> Answer
-    ensures { λ r. ⌜ Finds (now (bytes .entry)) (now (starts .entry)) (now (shape .entry)) (now (ends .entry)) o goal n start count (now (work .entry)) (now (instance .entry)) r (now (work .exit)) (now (instance .exit)) ⌝ }
+    ensures { λ r. ⌜ Looked (now (bytes .entry)) (now (starts .entry)) (now (shape .entry)) (now (ends .entry)) o goal n start count (now (work .entry)) (now (instance .entry)) r (now (work .exit)) (now (instance .exit)) ⌝ }
 {
     let mut codes = [0u16; 512];
     let cells = cells::cells_of(shape, o.tables, &mut codes);

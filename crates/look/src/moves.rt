@@ -5,7 +5,7 @@ use value::domain::Domain;
 ghost use mathlib.Core.Path.{_≡_};
 ghost use Prim.Native.Nat.{_<_};
 ghost use Rattle.value.specs.Machine.{columnOf};
-ghost use Rattle.look.specs.Moves.{codeColumn, DigitPut, Placed, Moved};
+ghost use Rattle.look.specs.Moves.{codeColumn, DigitPut, CandidatePut, Moved};
 
 // What is left of two candidate numbers before the digits that are done.
 struct Quotients {
@@ -44,8 +44,15 @@ fn put_digit(shape: &[u8], ends: &[i32], code: u16, q: Quotients, work: &mut [i3
 
 // The cells become those of candidate k.
 // Refused: those of candidate 0; of candidate 1.
-pub fn place(shape: &[u8], ends: &[i32], codes: &[u16], cells: u32, k: u64, work: &mut [i32])
-    ensures { λ _. ⌜ Placed (now (shape .entry)) (now (ends .entry)) (now (codes .entry)) cells k (now (work .entry)) (now (work .exit)) ⌝ }
+pub fn put_candidate(
+    shape: &[u8],
+    ends: &[i32],
+    codes: &[u16],
+    cells: u32,
+    k: u64,
+    work: &mut [i32],
+)
+    ensures { λ _. ⌜ CandidatePut (now (shape .entry)) (now (ends .entry)) (now (codes .entry)) cells k (now (work .entry)) (now (work .exit)) ⌝ }
 {
     let mut q = Quotients { old: k, new: k };
     let mut j = cells;

@@ -6,7 +6,7 @@ use catalog::outline;
 use catalog::outline::Outline;
 use catalog::plan::Goal;
 ghost use Prim.Native.Nat.{_<_};
-ghost use Rattle.look.specs.Scans.{Tests, Scans, Searches};
+ghost use Rattle.look.specs.Scans.{Tested, Scans, Searched};
 
 // Candidate k, whose cells stand in the work area, if it is a case; else the candidate to go on with.
 fn tested(
@@ -23,7 +23,7 @@ fn tested(
     work: &mut [i32],
 ) -> u64
     requires { ⌜ k < 18446744073709551615 ⌝ }
-    ensures { λ r. ⌜ Tests (now (bytes .entry)) (now (starts .entry)) (now (shape .entry)) (now (needed .entry)) (now (asked .entry)) o goal k (now (counts .entry)) (now (refuted .entry)) (now (work .entry)) r (now (counts .exit)) (now (refuted .exit)) (now (work .exit)) ⌝ }
+    ensures { λ r. ⌜ Tested (now (bytes .entry)) (now (starts .entry)) (now (shape .entry)) (now (needed .entry)) (now (asked .entry)) o goal k (now (counts .entry)) (now (refuted .entry)) (now (work .entry)) r (now (counts .exit)) (now (refuted .exit)) (now (work .exit)) ⌝ }
 {
     if judgement::is_case(
         bytes,
@@ -102,7 +102,7 @@ pub fn search(
     end: u64,
     work: &mut [i32],
 ) -> u64
-    ensures { λ r. ⌜ Searches (now (bytes .entry)) (now (starts .entry)) (now (shape .entry)) (now (ends .entry)) o goal (now (codes .entry)) cells start end (now (work .entry)) r (now (work .exit)) ⌝ }
+    ensures { λ r. ⌜ Searched (now (bytes .entry)) (now (starts .entry)) (now (shape .entry)) (now (ends .entry)) o goal (now (codes .entry)) cells start end (now (work .entry)) r (now (work .exit)) ⌝ }
 {
     let mut counts = [0u8; 16];
     outline::count_tables(shape, o.tables, &mut counts);
@@ -110,7 +110,7 @@ pub fn search(
     let mut asked = [0u8; 16];
     needs::needs_of(bytes, starts, o, goal, &mut needed, &mut asked);
     let mut refuted = [0u8; 16];
-    moves::place(shape, ends, codes, cells, start, work);
+    moves::put_candidate(shape, ends, codes, cells, start, work);
     scan(
         bytes,
         starts,

@@ -18,22 +18,21 @@ use Rattle.meaning.specs.Syntax.{File}
 use Rattle.language.specs.Reading.{deepE, readE, readC}
 use Rattle.meaning.specs.Rows.{rows}
 use Rattle.meaning.specs.Bounds.{schema, schemas}
-use Rattle.meaning.specs.Valid.{valid}
-use Rattle.meaning.specs.Cases.{isCase, someRow}
+use Rattle.meaning.specs.Decided.{valid, isCase, someRow, refusal, isCaseAt, searched, look}
 use Rattle.meaning.specs.Candidates.{cellCount, candidates, cells, database}
-use Rattle.meaning.specs.Look.{Answer, After, answerIn, workSize, refusal, zeros, candidate, searched, look}
+use Rattle.meaning.specs.Look.{Answer, After, answerIn, workSize, zeros}
 use Rattle.meaning.specs.Looks.{Ask, NoDatabase}
 use Rattle.meaning.proofs.DecidedLists.{ltb-dec}
 use Rattle.meaning.proofs.OneLook.{passes-over-none}
 use Rattle.meaning.proofs.Relations.{rows-mean}
-use Rattle.text.specs.Text.{framesOf, linesOf, run, step, digit as hexValue, textOf, line, hex, hexDigit}
+use Rattle.text.specs.Text.{framesOf, linesOf, run, step, hexValue as hexValue, textOf, line, hex, hexDigit}
 use Rattle.language.specs.Check.{Outcome, checkFrame, reach}
 use Rattle.language.specs.FileOf.{fileOf}
 use Rattle.language.proofs.TextLaws.{accepted-text}
 use Rattle.language.proofs.RealLooks.{look-of-text, demand-3, look-says}
 use Rattle.language.specs.LookOf.{lookOf}
 use Rattle.language.specs.OutputOf.{numberBytes, tableFrame, searchedAll, outputOf, outputRoom, Printed}
-use Rattle.marked.specs.Table.{Entry, Gives, Judges, Prints, Right}
+use Rattle.marked.specs.Table.{Entry, LookGives, Judges, Prints, Right}
 
 -- ---- a look
 
@@ -47,7 +46,7 @@ unfolding look
 look-fits F start count work inst h i = rw (le-ltb (length work) workSize h, le-ltb (length inst) (cellCount F) i)
 
 module _ (text : List ℕ) (F : File) (e : fileOf text ≡ Outcome.accepted F) (s c : ℕ) (a : Answer) (shows : List ℤ) where
-  gives : ((work inst : List ℤ) → fitting F s c work inst ≡ After.after a (zeros work) (shows ++ drop (length shows) inst)) → Gives text s c a shows F
+  gives : ((work inst : List ℤ) → fitting F s c work inst ≡ After.after a (zeros work) (shows ++ drop (length shows) inst)) → LookGives text s c a shows F
   gives f work inst h i = rw (look-of-text text F e, look-fits F s c work inst h i) (f work inst)
 
   -- by demand 3 of a list of one look
@@ -58,7 +57,7 @@ module _ (text : List ℕ) (F : File) (e : fileOf text ≡ Outcome.accepted F) (
       demand-3 text F e (ask ∷ []) .no-case-when .0 (rw q0) .1
 
   -- by what a look from any start says, at some buffers that are long enough
-  judges : Gives text s c a shows F → Judges s a F
+  judges : LookGives text s c a shows F → Judges s a F
   judges g =
       let work = replicate workSize (pos 0) in
       let inst = replicate (cellCount F) (pos 0) in
@@ -82,7 +81,7 @@ prints text output e out r out′ p h =
 unfoldable pub Computed : Entry → Type 0
 unfolding
     fileOf framesOf linesOf run step hexValue reach checkFrame readE readC deepE signedOf minZ maxZ candidates size
-    candidate isCase valid someRow database cells digit shown between sameValue compare apply round roundZ stepsUp sure holds negate connect
+    isCaseAt isCase valid someRow database cells digit shown between sameValue compare apply round roundZ stepsUp sure holds negate connect
     start weight more finish outputOf searchedAll tableFrame numberBytes bitsOf textOf line hex hexDigit
 Computed (Entry.looked text s c a shows) = (F : File) × (fileOf text ≡ Outcome.accepted F)
     × ((work inst : List ℤ) → fitting F s c work inst ≡ After.after a (zeros work) (shows ++ drop (length shows) inst))

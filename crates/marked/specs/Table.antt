@@ -37,8 +37,8 @@ pub data Entry : Type 0 where
   printed : (text output : List ℕ) → Entry
 
 -- whatever buffers are lent, if they are long enough: the answer, a work area all zero, the cells, and every other number as it was
-abbrev pub Gives : List ℕ → ℕ → ℕ → Answer → List ℤ → File → Type 0
-Gives text start count a cells F = (work inst : List ℤ) → workSize ≤ length work → cellCount F ≤ length inst
+abbrev pub LookGives : List ℕ → ℕ → ℕ → Answer → List ℤ → File → Type 0
+LookGives text start count a cells F = (work inst : List ℤ) → workSize ≤ length work → cellCount F ≤ length inst
     → lookOf text start count work inst ≡ After.after a (zeros work) (cells ++ drop (length cells) inst)
 
 -- by the paper's definitions: no candidate from the start up to where the answer stands is a case, the k of "case k" is one, and "no case"
@@ -68,7 +68,7 @@ Prints text output = (out : List ℕ) (r : ℕ) (out′ : List ℕ) → Printed 
     → (r ≡ length output) × (out′ ≡ output ++ drop (length output) out)
 
 unfoldable pub Right : Entry → Type 0
-Right (looked text start count a cells) = (F : File) × (fileOf text ≡ Outcome.accepted F) × Gives text start count a cells F × Judges start a F
+Right (looked text start count a cells) = (F : File) × (fileOf text ≡ Outcome.accepted F) × LookGives text start count a cells F × Judges start a F
 Right (viewed text k v rs) = (F : File) × (fileOf text ≡ Outcome.accepted F) × Shows k v (map (map Value.number) rs) F
 Right (bounded text v n rs) = (F : File) × (fileOf text ≡ Outcome.accepted F) × Spans v n rs F
 Right (accepted text n) = (F : File) × (fileOf text ≡ Outcome.accepted F) × (candidates F ≡ n)

@@ -13,11 +13,12 @@ use Rattle.value.specs.Bag.{All, Same}
 use Rattle.value.proofs.Decides.{Decides, and-dec, by-dec, dec-true, or-dec}
 use Rattle.meaning.specs.Algebra.{Bag, below, query}
 use Rattle.meaning.specs.Bounds.{aggregatesFit, earlier, everyView, names, schemas, tableSchema, viewSchema, wellFormed}
-use Rattle.meaning.specs.Cases.{Case, Inhabited, NTC, NonEmpty, PTC, PTC-query, Wanted, hasRow, isCase, negative, refuted, setNegative, someRow, wanted}
+use Rattle.meaning.specs.Cases.{Case, Inhabited, NTC, NonEmpty, PTC, PTC-query, Wanted}
+use Rattle.meaning.specs.Decided.{hasRow, isCase, negative, refuted, setNegative, someRow, wanted, valid}
 use Rattle.meaning.specs.Evaluation.{rowTest}
 use Rattle.meaning.specs.Rows.{rows, rowsOf}
 use Rattle.meaning.specs.Syntax.{Database, File, Goal, SetOperation, View}
-use Rattle.meaning.specs.Valid.{Valid, valid}
+use Rattle.meaning.specs.Valid.{Valid}
 use Rattle.meaning.proofs.DecidedLists.{T-dec, all-dec, any-dec, cons-all, each-length, isPos-dec, ltb-dec}
 use Rattle.meaning.proofs.DecidedValidity.{valid-dec}
 use Rattle.meaning.proofs.Operations.{answer-one, answer-rows}

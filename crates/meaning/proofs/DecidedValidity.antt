@@ -12,7 +12,8 @@ use Rattle.meaning.specs.Evaluation.{missing}
 use Rattle.meaning.specs.Lists.{each}
 use Rattle.meaning.specs.Rows.{rows}
 use Rattle.meaning.specs.Syntax.{Database, File, ForeignKey, Pair, Row, Table}
-use Rattle.meaning.specs.Valid.{Agrees, Differ, ForeignKeyHolds, InRange, KeyHolds, Shaped, Valid, agrees, differ, foreignKeyHolds, inRange, keyHolds, valid}
+use Rattle.meaning.specs.Valid.{Agrees, Differ, ForeignKeyHolds, InRange, KeyHolds, Shaped, Valid}
+use Rattle.meaning.specs.Decided.{agrees, differ, foreignKeyHolds, inRange, keyHolds, valid}
 use Rattle.meaning.proofs.DecidedLists.{NotNil, T-dec, all-dec, any-dec, each-dec, no-dec, pairwise-dec}
 
 -- ---- two rows that differ in a key column

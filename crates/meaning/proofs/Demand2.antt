@@ -10,7 +10,8 @@ use Rattle.value.specs.Bag.{count}
 use Rattle.value.proofs.Decides.{Decides, dec-true, true-dec}
 use Rattle.meaning.specs.Algebra.{Bag, MeaningOf, SameTables}
 use Rattle.meaning.specs.Bounds.{wellFormed}
-use Rattle.meaning.specs.Cases.{Case, isCase}
+use Rattle.meaning.specs.Cases.{Case}
+use Rattle.meaning.specs.Decided.{isCase}
 use Rattle.meaning.specs.Evaluation.{rowTest}
 use Rattle.meaning.specs.Rows.{rows}
 use Rattle.meaning.specs.Syntax.{Database, File, Row}

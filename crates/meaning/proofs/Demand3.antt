@@ -4,7 +4,7 @@ use mathlib.Core.Path.{_≡_, refl, sym, _∙_}
 use mathlib.Core.Bool.{true}
 use Rattle.meaning.specs.Bounds.{wellFormed}
 use Rattle.meaning.specs.Candidates.{Numbered, SixteenBits}
-use Rattle.meaning.specs.Look.{look}
+use Rattle.meaning.specs.Decided.{look}
 use Rattle.meaning.specs.Looks.{Look, EveryLook, EveryList, EveryCover}
 use Rattle.meaning.specs.Syntax.{File}
 use Rattle.meaning.proofs.Demand2.{cases}

@@ -9,11 +9,11 @@ use lib.Arith.{digits-div, mod-mul}
 use lib.ListN.{length, take, drop}
 use lib.Signed.{_≤ℤ_}
 use Rattle.value.specs.Bag.{All}
-use Rattle.value.specs.Value.{Value, Column, Within, size, digit, digitOf}
+use Rattle.value.specs.Value.{Value, Column, InColumn, size, digit, digitOf}
 use Rattle.value.proofs.Order.{≤-self}
 use Rattle.value.proofs.Values.{between-self, between-wider, digit-within, within-digit, digit-back}
 use Rattle.meaning.specs.Lists.{Each}
-use Rattle.meaning.specs.Candidates.{product, values, number}
+use Rattle.meaning.specs.Candidates.{sizesProduct, values, number}
 
 -- "lo ≤ hi"
 abbrev pub Ascending : Column → Type 0
@@ -23,7 +23,7 @@ Ascending c = c .lo ≤ℤ c .hi
 pub size-above : (c : Column) → Ascending c → 0 < size c
 size-above c h = omega (arith, within-digit c (record { bounds = between-wider (≤-self (c .lo)) h (between-self (c .lo)) }) .0)
 
-pub product-above : {cs : List Column} → All Ascending cs → 0 < product cs
+pub product-above : {cs : List Column} → All Ascending cs → 0 < sizesProduct cs
 product-above All.nil = omega arith
 product-above (All.cons {x = c} {xs = cs} h hs) = mul-pos (size-above c h) (product-above hs)
 
@@ -33,40 +33,40 @@ length-values (c ∷ cs) k = ap suc (length-values cs k)
 
 -- ---- from a number to its values
 
-pub values-within : {cs : List Column} → All Ascending cs → (k : ℕ) → Each Within cs (values cs k)
+pub values-within : {cs : List Column} → All Ascending cs → (k : ℕ) → Each InColumn cs (values cs k)
 values-within All.nil k = Each.nil
 values-within (All.cons {x = c} {xs = cs} h hs) k =
-    Each.cons (digit-within c h (k / product cs % size c) (mod-lt (k / product cs) (size-above c h))) (values-within hs k)
+    Each.cons (digit-within c h (k / sizesProduct cs % size c) (mod-lt (k / sizesProduct cs) (size-above c h))) (values-within hs k)
 
 -- a multiple of the product changes no digit
-pub values-shift : {cs : List Column} → All Ascending cs → (d k : ℕ) → values cs (d * product cs + k) ≡ values cs k
+pub values-shift : {cs : List Column} → All Ascending cs → (d k : ℕ) → values cs (d * sizesProduct cs + k) ≡ values cs k
 values-shift All.nil d k = refl
 values-shift (All.cons {x = c} {xs = cs} h hs) d k =
     let q = mul-add-div-right (product-above hs) (d * size c) k in
-    rw (← mul-assoc d (size c) (product cs), values-shift hs (d * size c) k, q, mul-add-mod-self-right d (size c) (k / product cs))
+    rw (← mul-assoc d (size c) (sizesProduct cs), values-shift hs (d * size c) k, q, mul-add-mod-self-right d (size c) (k / sizesProduct cs))
 
 -- ---- and back
 
-pub number-values : {cs : List Column} → All Ascending cs → (k : ℕ) → number cs (values cs k) ≡ k % product cs
+pub number-values : {cs : List Column} → All Ascending cs → (k : ℕ) → number cs (values cs k) ≡ k % sizesProduct cs
 number-values All.nil k = sym (mod-one k)
 number-values (All.cons {x = c} {xs = cs} h hs) k =
-    rw (digit-back c (k / product cs % size c), number-values hs k) (sym (mod-mul k (size-above c h) (product-above hs)))
+    rw (digit-back c (k / sizesProduct cs % size c), number-values hs k) (sym (mod-mul k (size-above c h) (product-above hs)))
 
-pub number-below : {cs : List Column} {vs : List Value} → Each Within cs vs → number cs vs < product cs
+pub number-below : {cs : List Column} {vs : List Value} → Each InColumn cs vs → number cs vs < sizesProduct cs
 number-below Each.nil = omega arith
 number-below (Each.cons {x = c} {y = v} {xs = cs} w ws) =
-    omega (arith, mul-le-mul-right (product cs) (within-digit c w .0), suc-mul (digitOf c v) (product cs), number-below ws)
+    omega (arith, mul-le-mul-right (sizesProduct cs) (within-digit c w .0), suc-mul (digitOf c v) (sizesProduct cs), number-below ws)
 
-pub values-number : {cs : List Column} {vs : List Value} → All Ascending cs → Each Within cs vs → values cs (number cs vs) ≡ vs
+pub values-number : {cs : List Column} {vs : List Value} → All Ascending cs → Each InColumn cs vs → values cs (number cs vs) ≡ vs
 values-number hs Each.nil = refl
 values-number (All.cons h hs) (Each.cons {x = c} {y = v} {xs = cs} {ys = vs} w ws) =
     let n = number cs vs in
-    let q : (digitOf c v * product cs + n) / product cs ≡ digitOf c v = digits-div (digitOf c v) (number-below ws) in
+    let q : (digitOf c v * sizesProduct cs + n) / sizesProduct cs ≡ digitOf c v = digits-div (digitOf c v) (number-below ws) in
     let r : digitOf c v % size c ≡ digitOf c v = mod-eq-of-lt (within-digit c w .0) in
     rw (q, r, within-digit c w .1, values-shift hs (digitOf c v) n, values-number hs ws)
 
 -- two numbers with the same cells are one
-pub values-unique : {cs : List Column} → All Ascending cs → (j k : ℕ) → j < product cs → k < product cs → values cs j ≡ values cs k → j ≡ k
+pub values-unique : {cs : List Column} → All Ascending cs → (j k : ℕ) → j < sizesProduct cs → k < sizesProduct cs → values cs j ≡ values cs k → j ≡ k
 values-unique {cs} hs j k hj hk e =
     sym (mod-eq-of-lt hj) ∙ sym (number-values hs j) ∙ ap (number cs) e ∙ number-values hs k ∙ mod-eq-of-lt hk
 
@@ -85,18 +85,18 @@ all-drop zero hs = hs
 all-drop (suc i) All.nil = All.nil
 all-drop (suc i) (All.cons h hs) = all-drop i hs
 
-product-drop : (cs : List Column) (i : ℕ) → product (drop i cs) ∣ product cs
+product-drop : (cs : List Column) (i : ℕ) → sizesProduct (drop i cs) ∣ sizesProduct cs
 product-drop [] zero = dvd-refl 1
 product-drop [] (suc i) = dvd-refl 1
-product-drop (c ∷ cs) zero = dvd-refl (size c * product cs)
-product-drop (c ∷ cs) (suc i) = dvd-mul-left-of-dvd (product (drop i cs)) (product-drop cs i) (size c)
+product-drop (c ∷ cs) zero = dvd-refl (size c * sizesProduct cs)
+product-drop (c ∷ cs) (suc i) = dvd-mul-left-of-dvd (sizesProduct (drop i cs)) (product-drop cs i) (size c)
 
 -- a carry that stops at the cell i leaves the cells before it
-pub kept : {cs : List Column} → All Ascending cs → (i k : ℕ) → (suc k % product (drop i cs) ≡ 0 → ⊥)
+pub kept : {cs : List Column} → All Ascending cs → (i k : ℕ) → (suc k % sizesProduct (drop i cs) ≡ 0 → ⊥)
     → values cs (suc k) ≡ take i (values cs k) ++ values (drop i cs) (suc k)
 kept hs zero k z = refl
 kept All.nil (suc i) k z = refl
 kept (All.cons {x = c} {xs = cs} h hs) (suc i) k z =
-    let p = product (drop i cs) in
-    let z′ : suc k % product cs ≡ 0 → ⊥ = λ e. z (sym (mod-mod-of-dvd p (suc k) (product-drop cs i)) ∙ ap (λ (n : ℕ). n % p) e ∙ zero-mod p) in
-    ap₂ (λ (n : ℕ) (l : List Value). digit c (n % size c) ∷ l) (div-same k (product cs) (product-above hs) z′) (kept hs i k z)
+    let p = sizesProduct (drop i cs) in
+    let z′ : suc k % sizesProduct cs ≡ 0 → ⊥ = λ e. z (sym (mod-mod-of-dvd p (suc k) (product-drop cs i)) ∙ ap (λ (n : ℕ). n % p) e ∙ zero-mod p) in
+    ap₂ (λ (n : ℕ) (l : List Value). digit c (n % size c) ∷ l) (div-same k (sizesProduct cs) (product-above hs) z′) (kept hs i k z)

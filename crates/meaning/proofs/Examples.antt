@@ -12,10 +12,10 @@ use Rattle.value.proofs.Decides.{Decides, dec-true}
 use Rattle.value.proofs.Values.{all-map}
 use Rattle.meaning.specs.Algebra.{MeaningOf}
 use Rattle.meaning.specs.Bounds.{wellFormed}
-use Rattle.meaning.specs.Cases.{Case, isCase, someRow}
+use Rattle.meaning.specs.Cases.{Case}
+use Rattle.meaning.specs.Decided.{isCase, someRow, valid}
 use Rattle.meaning.specs.Rows.{rows}
 use Rattle.meaning.specs.Syntax.{Cond, Database, Expr, File, Row, SetOperation, View}
-use Rattle.meaning.specs.Valid.{valid}
 use Rattle.meaning.proofs.Demand2.{cases}
 use Rattle.meaning.proofs.Relations.{rows-mean}
 

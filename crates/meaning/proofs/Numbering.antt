@@ -10,14 +10,14 @@ use lib.Signed.{leZ}
 use lib.ListN.{length, take, drop, length-append, take-append-drop}
 use lib.Seq.{take-add, drop-drop, take-at, drop-at}
 use Rattle.value.specs.Bag.{All}
-use Rattle.value.specs.Value.{Value, Column, Within}
+use Rattle.value.specs.Value.{Value, Column, InColumn}
 use Rattle.value.proofs.Linear.{leZ-true}
 use Rattle.value.proofs.Values.{all-map}
 use Rattle.meaning.specs.Lists.{Each, all, copies, joined}
 use Rattle.meaning.specs.Syntax.{Table, File, Row, Database}
 use Rattle.meaning.specs.Valid.{InRange}
 use Rattle.meaning.specs.Bounds.{ordered}
-use Rattle.meaning.specs.Candidates.{cellColumns, product, values, number, cutRows, cut, cellCount, candidates, cells, database, Numbered}
+use Rattle.meaning.specs.Candidates.{cellColumns, sizesProduct, values, number, cutRows, cut, cellCount, candidates, cells, database, Numbered}
 use Rattle.meaning.proofs.Elements.{all-append, all-test, each-append}
 use Rattle.meaning.proofs.DecidedLists.{each-length}
 use Rattle.meaning.proofs.Digits.{Ascending, product-above, length-values, values-within, number-values, number-below, values-number, values-unique}
@@ -76,39 +76,39 @@ cut-joined w vs (All.cons {x = r} {xs = R} p ps) =
 
 module _ (cs : List Column) where
   -- each of the first n rows of cells lies in its columns, and the rest in theirs
-  cutRows-within : (n : ℕ) {rest : List Column} {vs : List Value} → Each Within (copies n cs ++ rest) vs
-      → All (Each Within cs) (cutRows n (length cs) vs) × Each Within rest (drop (n * length cs) vs)
+  cutRows-within : (n : ℕ) {rest : List Column} {vs : List Value} → Each InColumn (copies n cs ++ rest) vs
+      → All (Each InColumn cs) (cutRows n (length cs) vs) × Each InColumn rest (drop (n * length cs) vs)
   cutRows-within zero ps = (All.nil, rw (zero-mul (length cs)) ps)
   cutRows-within (suc n) {rest} {vs} ps =
       let h = each-split cs (rw append-assoc at ps) in
       let r = cutRows-within n (h .1) in
       (All.cons (h .0) (r .0), rw (drop-row n (length cs) vs) (r .1))
 
-  joined-within : {R : List Row} → All (Each Within cs) R → Each Within (copies (length R) cs) (joined R)
+  joined-within : {R : List Row} → All (Each InColumn cs) R → Each InColumn (copies (length R) cs) (joined R)
   joined-within All.nil = Each.nil
   joined-within (All.cons p ps) = each-append p (joined-within ps)
 
-  rows-wide : {R : List Row} → All (Each Within cs) R → All (λ r. length r ≡ length cs) R
+  rows-wide : {R : List Row} → All (Each InColumn cs) R → All (λ r. length r ≡ length cs) R
   rows-wide ps = all-map (λ r p. each-length p) ps
 
 -- ---- tables: cut and flattened
 
-pub cut-shaped : (ts : List Table) {vs : List Value} → Each Within (cellColumns ts) vs → Each InRange ts (cut ts vs)
+pub cut-shaped : (ts : List Table) {vs : List Value} → Each InColumn (cellColumns ts) vs → Each InRange ts (cut ts vs)
 cut-shaped [] ps = Each.nil
 cut-shaped (t ∷ ts) {vs} ps =
     let h = cutRows-within (t .columns) (t .rows) ps in
     Each.cons (record { rows = length-cutRows (t .rows) (length (t .columns)) vs; values = h .0 }) (cut-shaped ts (h .1))
 
-pub flat-cut : (ts : List Table) {vs : List Value} → Each Within (cellColumns ts) vs → flat (cut ts vs) ≡ vs
+pub flat-cut : (ts : List Table) {vs : List Value} → Each InColumn (cellColumns ts) vs → flat (cut ts vs) ≡ vs
 flat-cut [] Each.nil = refl
 flat-cut (t ∷ ts) {vs} ps =
     let w = length (t .columns) in
     rw (joined-cutRows (t .rows) w vs, flat-cut ts (cutRows-within (t .columns) (t .rows) ps .1)) (take-append-drop (t .rows * w) vs)
 
-pub flat-within : {ts : List Table} {d : Database} → Each InRange ts d → Each Within (cellColumns ts) (flat d)
+pub flat-within : {ts : List Table} {d : Database} → Each InRange ts d → Each InColumn (cellColumns ts) (flat d)
 flat-within Each.nil = Each.nil
 flat-within (Each.cons {x = t} {y = R} r rs) =
-    each-append (subst (λ (n : ℕ). Each Within (copies n (t .columns)) (joined R)) (r .rows) (joined-within (t .columns) (r .values))) (flat-within rs)
+    each-append (subst (λ (n : ℕ). Each InColumn (copies n (t .columns)) (joined R)) (r .rows) (joined-within (t .columns) (r .values))) (flat-within rs)
 
 pub cut-flat : {ts : List Table} {d : Database} → Each InRange ts d → cut ts (flat d) ≡ d
 cut-flat Each.nil = refl
@@ -126,7 +126,7 @@ module _ (F : File) where
   length-cells k = length-values (cellColumns (F .tables)) k
 
   -- the cells of a candidate lie in their columns
-  pub cells-within : all ordered (F .tables) ≡ true → (k : ℕ) → Each Within (cellColumns (F .tables)) (cells F k)
+  pub cells-within : all ordered (F .tables) ≡ true → (k : ℕ) → Each InColumn (cellColumns (F .tables)) (cells F k)
   unfolding cells
   cells-within o k = values-within (cells-ascend (F .tables) o) k
 

@@ -12,15 +12,16 @@ use lib.ListN.{length, take, drop, length-append, length-drop, length-map}
 use lib.Seq.{take-at, drop-at}
 use Rattle.value.specs.Bag.{All}
 use Rattle.value.specs.Integer.{low16, high16}
-use Rattle.value.specs.Value.{Value, Column, Between, Within, Cell, shown}
+use Rattle.value.specs.Value.{Value, Column, Between, InColumn, Cell, shown}
 use Rattle.value.proofs.Decides.{Decides, dec-true, true-dec}
 use Rattle.value.proofs.Values.{between-wider, shown-cell}
 use Rattle.meaning.specs.Lists.{Each, all}
 use Rattle.meaning.specs.Syntax.{File, Database}
-use Rattle.meaning.specs.Cases.{Case, isCase}
+use Rattle.meaning.specs.Cases.{Case}
+use Rattle.meaning.specs.Decided.{isCase, seek, isCaseAt, shownIn, searched, look}
 use Rattle.meaning.specs.Bounds.{ordered}
 use Rattle.meaning.specs.Candidates.{cellColumns, cellCount, candidates, cells, database, Held16, SixteenBits}
-use Rattle.meaning.specs.Look.{Answer, After, answerIn, seek, zeros, workSize, candidate, shownIn, searched, look}
+use Rattle.meaning.specs.Look.{Answer, After, answerIn, zeros, workSize}
 use Rattle.meaning.specs.Looks.{Look, CaseAt, NoneFrom, RefusedBy, Fits, endOf, Smallest, Begins, Buffers, LookSays, EveryLook, upTo, RefusedUnchanged}
 use Rattle.meaning.proofs.Numbering.{all-cells, cells-within, length-cells}
 use Rattle.meaning.proofs.Seeks.{Sought, seeks}
@@ -44,7 +45,7 @@ least-one s k j a b p q f g =
 -- ---- the instance buffer
 
 -- cells within columns of 16 bits are shown as they are
-shown-cells : {cs : List Column} {vs : List Value} → All Held16 cs → Each Within cs vs → Each Cell vs (map shown vs)
+shown-cells : {cs : List Column} {vs : List Value} → All Held16 cs → Each InColumn cs vs → Each Cell vs (map shown vs)
 shown-cells All.nil Each.nil = Each.nil
 shown-cells (All.cons h hs) (Each.cons w ws) = Each.cons (shown-cell (between-wider (h .low) (h .high) (w .bounds))) (shown-cells hs ws)
 
@@ -129,12 +130,12 @@ module _ (F : File) (o : all ordered (F .tables) ≡ true) (small : SixteenBits 
   N = candidates F
 
   -- the test of a candidate says whether it is a case
-  is-case : (k : ℕ) → candidate F k ≡ true → CaseAt F k
-  unfolding candidate
+  is-case : (k : ℕ) → isCaseAt F k ≡ true → CaseAt F k
+  unfolding isCaseAt
   is-case k e = dec-true (decides (database F k)) e
 
-  no-case : (k : ℕ) → candidate F k ≡ false → ¬ (CaseAt F k)
-  unfolding candidate
+  no-case : (k : ℕ) → isCaseAt F k ≡ false → ¬ (CaseAt F k)
+  unfolding isCaseAt
   no-case k e c = true≢false (sym (true-dec (decides (database F k)) c) ∙ e)
 
   module _ (start count : ℕ) (work inst : List ℤ) where
@@ -158,10 +159,10 @@ module _ (F : File) (o : all ordered (F .tables) ≡ true) (small : SixteenBits 
         end = endOf F start count
 
         k : ℕ
-        k = seek (candidate F) start (end - start)
+        k = seek (isCaseAt F) start (end - start)
 
-        s : Sought (candidate F) start (end - start) k
-        s = seeks (candidate F) start (end - start)
+        s : Sought (isCaseAt F) start (end - start) k
+        s = seeks (isCaseAt F) start (end - start)
 
         passed : end ≤ k → NoneFrom F start end
         passed g j a b = no-case j (s .none j a (omega arith))

@@ -8,11 +8,11 @@ use native.Mathlib.Omega.{arith}
 use lib.ListN.{getD}
 use Rattle.value.specs.Bag.{Same, Test, count, tick}
 use Rattle.value.proofs.Decides.{and-parts, by-test}
-use Rattle.meaning.specs.Algebra.{Bag, Groups, IsGroup, IsGrouping, IsProduct, IsProjection, IsSelection, IsSet, Means, groupCount, multiplicity, over, times}
+use Rattle.meaning.specs.Algebra.{Bag, Groups, IsGroup, IsGrouping, IsProduct, IsProjection, IsSelection, IsSet, Means, groupCount, multiplicity, over, crossCount}
 use Rattle.meaning.specs.Bounds.{aggregatesFit, allowedC, allowedE, anyColumn, groupingColumn}
 use Rattle.meaning.specs.Evaluation.{cell, combinationTest, keyOf, rowTest, satisfies}
 use Rattle.meaning.specs.Lists.{all, combinations, gate, keep, pairs}
-use Rattle.meaning.specs.Rows.{kept, keys, members, relations, rowsOf, setRows, spread, together}
+use Rattle.meaning.specs.Rows.{kept, groupKeys, members, relations, rowsOf, setRows, spread, together}
 use Rattle.meaning.specs.Syntax.{Combination, Place, Row, SetOperation, View}
 use Rattle.meaning.proofs.Alike.{Alike, alone-alike, satisfies-alike, selected-alike}
 use Rattle.meaning.proofs.ListBags.{all-count, count-append, count-common, count-first, count-firsts, count-keep, count-map, countIf-bag, countIf-where, gate-none, gate-some, same-refl}
@@ -41,7 +41,7 @@ count-nil : (R : List Row) (C : List Combination) → count combinationTest [] (
 count-nil [] C = refl
 count-nil (x ∷ R) C = rw (count-append (combinationTest .same []) (map (_∷_ x) C) (pairs R C), no-nil x C, count-nil R C)
 
-product-count : (Rs : List Bag) (m : Combination) → count combinationTest m (combinations Rs) ≡ times Rs m
+product-count : (Rs : List Bag) (m : Combination) → count combinationTest m (combinations Rs) ≡ crossCount Rs m
 product-count [] [] = refl
 product-count [] (r ∷ m) = refl
 product-count (R ∷ Rs) [] = count-nil R (combinations Rs)
@@ -98,7 +98,7 @@ module _ {M M′ : ℕ → Bag} (h : (i : ℕ) → Same rowTest (M i) (M′ i)) 
       → Alike (groupingColumn gs) (over M G m) (over M′ G′ m′)
   group-alike {m = m} {m′ = m′} e g l g′ l′ = record { relations = h; items = λ i c t. member-cell g m l i c t ∙ sym (member-cell g′ m′ l′ i c t); group = group-one e g g′ }
 
-  times-one : (fs : List ℕ) (m : Combination) → times (map M fs) m ≡ times (map M′ fs) m
+  times-one : (fs : List ℕ) (m : Combination) → crossCount (map M fs) m ≡ crossCount (map M′ fs) m
   times-one [] m = refl
   times-one (i ∷ fs) [] = refl
   times-one (i ∷ fs) (r ∷ m) = ap₂ _*_ (h i .at r) (times-one fs m)
@@ -134,7 +134,7 @@ selection-sound E p R = record { at = λ μ. count-keep E p μ R }
 projection-sound : {A : Type 0} (f : A → Row) (R : List A) → IsProjection f R (map f R)
 projection-sound f R = record { at = λ μ. count-map (rowTest .same μ) f R }
 
-grouping-sound : (gs : List Place) (R : List Combination) → IsGrouping gs R (keys gs R)
+grouping-sound : (gs : List Place) (R : List Combination) → IsGrouping gs R (groupKeys gs R)
 grouping-sound gs R = let g = keyOf gs in record { at = λ k. count-firsts rowTest k (map g R) ∙ ap (min 1) (count-map (rowTest .same k) g R) }
 
 group-sound : (gs : List Place) (R : List Combination) (k : Row) → IsGroup gs R k (members gs R k)
@@ -148,14 +148,14 @@ set-sound SetOperation.intersection R S = record { at = λ μ. count-common rowT
 abbrev leader : List Place → List Combination → Row → Combination
 leader gs R k = getD (members gs R k) 0 []
 
-groups-sound : (gs : List Place) (R : List Combination) → Groups gs R (keys gs R) (members gs R) (leader gs R)
+groups-sound : (gs : List Place) (R : List Combination) → Groups gs R (groupKeys gs R) (members gs R) (leader gs R)
 groups-sound gs R = record {
   group-of = λ k l. group-sound gs R k;
   member-of = λ k l. count-first combinationTest [] (members gs R k) (group-member gs R k (all-count rowTest (key-members gs R) k l));
 }
 
 -- the scope of a group, by its grouping values and by its first member
-together-alike : (M : ℕ → Bag) (gs : List Place) (R : List Combination) (k : Row) → 0 < count rowTest k (keys gs R)
+together-alike : (M : ℕ → Bag) (gs : List Place) (R : List Combination) (k : Row) → 0 < count rowTest k (groupKeys gs R)
     → Alike (groupingColumn gs) (together M gs R k) (over M (members gs R k) (leader gs R k))
 together-alike M gs R k l = record {
   relations = λ i. same-refl;
@@ -176,11 +176,11 @@ answer-rows M (View.basic fs w ss) t = (
 answer-rows M (View.grouped fs w gs c ss) t =
     let S = kept M fs w in
     let f = group-fits w gs c ss t in
-    let k = selection-sound rowTest (λ k. satisfies c (together M gs S k)) (keys gs S) in (
+    let k = selection-sound rowTest (λ k. satisfies c (together M gs S k)) (groupKeys gs S) in (
       combinations (map M fs),
       S,
-      keys gs S,
-      keep (λ k. satisfies c (together M gs S k)) (keys gs S),
+      groupKeys gs S,
+      keep (λ k. satisfies c (together M gs S k)) (groupKeys gs S),
       members gs S,
       leader gs S,
       product-sound (map M fs),

@@ -13,11 +13,10 @@ use Rattle.value.specs.Value.{Value, Column, Comparison, size, digit, digitOf, 
 use Rattle.value.proofs.Decides.{dec-true}
 use Rattle.value.proofs.Values.{cell-number}
 use Rattle.meaning.specs.Syntax.{Expr, Cond, View, File}
-use Rattle.meaning.specs.Valid.{valid}
-use Rattle.meaning.specs.Cases.{isCase, someRow}
+use Rattle.meaning.specs.Decided.{valid, isCase, someRow, seek, isCaseAt, shownIn, afterSearch, look}
 use Rattle.meaning.specs.Bounds.{wellFormed}
 use Rattle.meaning.specs.Candidates.{cellColumns, number, candidates, cells, database}
-use Rattle.meaning.specs.Look.{Answer, After, seek, zeros, candidate, shownIn, verdict, look}
+use Rattle.meaning.specs.Look.{Answer, After, zeros}
 use Rattle.meaning.specs.Looks.{Look, CaseAt, Fits, Begins, EveryLook, RefusedUnchanged, Ask, EveryList}
 use Rattle.meaning.proofs.DecidedLists.{cons-each}
 use Rattle.meaning.proofs.Demand2.{cases}
@@ -46,7 +45,7 @@ abbrev only-first : Look
 only-first start count work inst = cond (eqb start 0) (look tiny start count work inst) (After.after (Answer.spent (start + count)) (zeros work) inst)
 
 pub not-only-first : EveryList tiny only-first → ⊥
-unfolding look candidate isCase valid someRow candidates database cells size digit compare sure holds between sameValue
+unfolding look isCaseAt isCase valid someRow candidates database cells size digit compare sure holds between sameValue
 not-only-first lists = lists (ask 1 ∷ ask 5 ∷ []) .else 6 refl .1 1 (omega arith) case-1
 
 -- calls every stretch spent, with a made-up next
@@ -68,7 +67,7 @@ abbrev early : Look
 early start count work inst = look tiny start (min count 1) work inst
 
 pub not-early : EveryList tiny early → ⊥
-unfolding look candidate isCase valid someRow candidates database cells size digit compare sure holds between sameValue
+unfolding look isCaseAt isCase valid someRow candidates database cells size digit compare sure holds between sameValue
 not-early lists = let e : _≡_ {A = ℕ} 1 2 = lists (ask 2 ∷ []) .else 1 refl .0 in omega arith
 
 -- says no case without looking
@@ -90,7 +89,7 @@ abbrev hasty : Look
 hasty start count work inst = widened (look tiny start count work inst)
 
 pub not-hasty : EveryList tiny hasty → ⊥
-unfolding look candidate isCase valid someRow candidates database cells size digit compare sure holds between sameValue
+unfolding look isCaseAt isCase valid someRow candidates database cells size digit compare sure holds between sameValue
 not-hasty lists = let l : 3 ≤ 1 = lists (ask 1 ∷ []) .no-case-when .0 refl .0 in omega arith
 
 -- leaves other buffers
@@ -107,7 +106,7 @@ unfolding cells size digit
 begins-1 {z} b = let e : Value.number (pos 1) ≡ Value.number z = cell-number (cons-each (b .front) .0) in cc
 
 pub not-always-0 : EveryList tiny always-0 → ⊥
-unfolding look candidate isCase valid someRow candidates database cells size digit shown compare sure holds between sameValue
+unfolding look isCaseAt isCase valid someRow candidates database cells size digit shown compare sure holds between sameValue
 not-always-0 lists = let e : pos 0 ≡ pos 1 = begins-1 (lists (ask 2 ∷ []) .stands) in apart (cc)
 
 -- writes nothing into the buffer
@@ -115,7 +114,7 @@ abbrev unwritten : Look
 unwritten start count work inst = with-buffers (λ w. w) (λ _. inst) (look tiny start count work inst)
 
 pub not-unwritten : EveryList tiny unwritten → ⊥
-unfolding look candidate isCase valid someRow candidates database cells size digit shown compare sure holds between sameValue
+unfolding look isCaseAt isCase valid someRow candidates database cells size digit shown compare sure holds between sameValue
 not-unwritten lists =
     let e : pos 7 ≡ pos 1 = begins-1 (lists (ask 2 ∷ []) .stands) in
     let n : _≡_ {A = ℕ} 7 1 = cc in
@@ -128,7 +127,7 @@ abbrev skipping : Look
 skipping start count work inst = look tiny (start + 1) count work inst
 
 pub not-skipping : EveryLook tiny skipping → ⊥
-unfolding look candidate isCase valid someRow candidates database cells size digit shown compare sure holds between sameValue
+unfolding look isCaseAt isCase valid someRow candidates database cells size digit shown compare sure holds between sameValue
 not-skipping says = says 1 1 (ask 1 .work) (ask 1 .inst) .case-when 2 .0 refl .1 .none 1 (omega arith) (omega arith) case-1
 
 -- says no case without looking, from any start
@@ -149,7 +148,7 @@ abbrev zeroing : Look
 zeroing start count work inst = cond (ltb 1 start) (with-buffers (λ w. w) zeros (look tiny start count work inst)) (look tiny start count work inst)
 
 pub not-zeroing : EveryLook tiny zeroing → ⊥
-unfolding look candidate candidates size
+unfolding look isCaseAt candidates size
 not-zeroing says = let e : pos 0 ∷ [] ≡ pos 7 ∷ [] = says 2 0 (ask 0 .work) (ask 0 .inst) .buffers .1 in apart (cc)
 
 -- leaves its work area as it is
@@ -157,7 +156,7 @@ abbrev untidy : Look
 untidy start count work inst = with-buffers (λ _. work) (λ i. i) (look tiny start count work inst)
 
 pub not-untidy : EveryLook tiny untidy → ⊥
-unfolding look candidate candidates size
+unfolding look isCaseAt candidates size
 not-untidy says =
     let work = replicate 9216 (pos 1) in
     let e : pos 1 ≡ pos 0 = ap (λ (w : List ℤ). getD w 0 (pos 0)) (says 0 0 work (pos 7 ∷ []) .buffers .0) in
@@ -200,17 +199,17 @@ keyed-case = dec-true (cases keyed refl (database keyed 1)) refl
 abbrev stopping : (ℕ → Answer) → Look
 stopping stop start count work inst =
     let end = min (start + count) (candidates keyed) in
-    let k = seek (λ j. not (valid keyed (database keyed j)) || candidate keyed j) start (end - start) in
-    cond (ltb k end && not (candidate keyed k)) (After.after (stop k) (zeros work) inst) (verdict keyed end k work inst)
+    let k = seek (λ j. not (valid keyed (database keyed j)) || isCaseAt keyed j) start (end - start) in
+    cond (ltb k end && not (isCaseAt keyed k)) (After.after (stop k) (zeros work) inst) (afterSearch keyed end k work inst)
 
 -- says no case there
 pub not-stopping : EveryList keyed (stopping (λ k. Answer.noCase)) → ⊥
-unfolding candidate isCase valid someRow candidates database cells size digit compare sure holds between sameValue
+unfolding isCaseAt isCase valid someRow candidates database cells size digit compare sure holds between sameValue
 not-stopping lists = lists (ask 4 ∷ []) .no-case-when .0 refl .1 (database keyed 1) keyed-case
 
 -- says spent there
 pub not-stopping-spent : EveryList keyed (stopping Answer.spent) → ⊥
-unfolding candidate isCase valid someRow candidates database cells size digit compare sure holds between sameValue
+unfolding isCaseAt isCase valid someRow candidates database cells size digit compare sure holds between sameValue
 not-stopping-spent lists = let e : _≡_ {A = ℕ} 0 4 = lists (ask 4 ∷ []) .else 0 refl .0 in omega arith
 
 -- ---- candidate order

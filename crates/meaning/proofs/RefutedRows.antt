@@ -14,7 +14,7 @@ use Rattle.meaning.specs.Algebra.{over}
 use Rattle.meaning.specs.Bounds.{wellFormed}
 use Rattle.meaning.specs.Evaluation.{Scope, combinationTest, keyOf, rowTest, satisfies, selected}
 use Rattle.meaning.specs.Lists.{all, firsts, keep, stack}
-use Rattle.meaning.specs.Rows.{groupRows, kept, keys, members, relation, rows, rowsOf, spread, together}
+use Rattle.meaning.specs.Rows.{groupRows, kept, groupKeys, members, relation, rows, rowsOf, spread, together}
 use Rattle.meaning.specs.Syntax.{Combination, Cond, Database, Expr, File, Place, Row, View}
 use Rattle.meaning.proofs.Demand2.{Views, views}
 
@@ -76,7 +76,7 @@ refuted wrong gs μ w one none of-wrong =
 
 -- every aggregate over all kept combinations
 abbrev over-all : Grouped
-over-all M gs h ss S = rowFor (λ k. over M S (spread gs k)) h ss (keys gs S)
+over-all M gs h ss S = rowFor (λ k. over M S (spread gs k)) h ss (groupKeys gs S)
 
 pub not-over-all : Views (fileRows over-all) → ⊥
 unfolding wellFormed compare sure holds sameValue start weight more finish minZ maxZ
@@ -84,7 +84,7 @@ not-over-all = refuted (fileRows over-all) (g ∷ []) (two 1 14) refl refl refl
 
 -- equal members of a group counted once
 abbrev over-distinct : Grouped
-over-distinct M gs h ss S = rowFor (λ k. over M (firsts combinationTest (members gs S k)) (spread gs k)) h ss (keys gs S)
+over-distinct M gs h ss S = rowFor (λ k. over M (firsts combinationTest (members gs S k)) (spread gs k)) h ss (groupKeys gs S)
 
 pub not-over-distinct : Views (fileRows over-distinct) → ⊥
 unfolding wellFormed compare sure holds sameValue start weight more finish minZ maxZ
@@ -92,7 +92,7 @@ not-over-distinct = refuted (fileRows over-distinct) (g ∷ []) (two 2 18) refl 
 
 -- having tested on each member
 abbrev having-each : Grouped
-having-each M gs h ss S = map (λ k. selected ss (together M gs S k)) (keep (λ k. all (λ m. satisfies h (over M (m ∷ []) m)) (members gs S k)) (keys gs S))
+having-each M gs h ss S = map (λ k. selected ss (together M gs S k)) (keep (λ k. all (λ m. satisfies h (over M (m ∷ []) m)) (members gs S k)) (groupKeys gs S))
 
 pub not-having-each : Views (fileRows having-each) → ⊥
 unfolding wellFormed compare sure holds sameValue start weight more finish minZ maxZ

@@ -7,17 +7,16 @@ use Prim.Native.Nat.{ℕ, zero, suc, _+_, _<_, _≤_}
 use native.Mathlib.Omega.{arith}
 use lib.ListN.{length, getD}
 use Rattle.value.specs.Bag.{Same, Test, count, remove}
-use Rattle.value.specs.Value.{size, valueTest, within}
+use Rattle.value.specs.Value.{size, valueTest, inColumn}
 use Rattle.value.proofs.Bags.{nil-only, pulled, same-tail}
 use Rattle.value.proofs.Decides.{by-test, and-cross}
 use Rattle.meaning.specs.Algebra.{Bag, SameTables, below, query}
 use Rattle.meaning.specs.Bounds.{aggregatesFit, wellFormed}
-use Rattle.meaning.specs.Cases.{hasRow, isCase, negative, refuted, setNegative, someRow}
+use Rattle.meaning.specs.Decided.{hasRow, isCase, negative, refuted, setNegative, someRow, agrees, differ, foreignKeyHolds, inRange, keyHolds, valid}
 use Rattle.meaning.specs.Evaluation.{rowTest}
 use Rattle.meaning.specs.Lists.{all, any, each, isPos, pairwise}
 use Rattle.meaning.specs.Rows.{rows, rowsOf}
 use Rattle.meaning.specs.Syntax.{Cond, Database, File, ForeignKey, Goal, Row, Table, View}
-use Rattle.meaning.specs.Valid.{agrees, differ, foreignKeyHolds, inRange, keyHolds, valid}
 use Rattle.meaning.proofs.DecidedCases.{query-lt}
 use Rattle.meaning.proofs.ListBags.{all-bag, and-swap, any-bag, length-bag, same-comm}
 use Rattle.meaning.proofs.Operations.{rows-one}
@@ -48,7 +47,7 @@ differ-comm (k ∷ ks) (x ∷ μ) (y ∷ ν) = rw (same-comm valueTest x y, diff
 
 -- the tests of one table
 inRange-order : (t : Table) (R S : Bag) → Same rowTest R S → inRange t R ≡ inRange t S
-inRange-order t R S h = rw (length-bag h, all-bag (each within (t .columns)) h)
+inRange-order t R S h = rw (length-bag h, all-bag (each inColumn (t .columns)) h)
 
 key-order : (t : Table) (R S : Bag) → Same rowTest R S → keyHolds t R ≡ keyHolds t S
 key-order t R S h = rw (pairwise-bag rowTest (differ (t .key)) (differ-comm (t .key)) h)

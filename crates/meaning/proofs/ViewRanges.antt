@@ -16,7 +16,7 @@ use Rattle.range.proofs.Soundness.{constant-inside, hull-left, hull-right}
 use Rattle.meaning.specs.Lists.{Any, Each, all, keep, combinations}
 use Rattle.meaning.specs.Syntax.{Expr, Cond, SetOperation, View, Place, Row, Combination}
 use Rattle.meaning.specs.Evaluation.{rowTest, missing, alone, satisfies, selected, keyOf}
-use Rattle.meaning.specs.Rows.{keys, together, kept, rowsOf}
+use Rattle.meaning.specs.Rows.{groupKeys, together, kept, rowsOf}
 use Rattle.meaning.specs.Bounds.{Schema, schema, itemRanges, productBound, withinE, withinC, hulls, viewSchema, names, sameWidth, allowedE, allowedC, anyColumn, groupingColumn, aggregatesFit, rangesFit}
 use Rattle.meaning.specs.Clear.{BasicClear, Chosen, GroupedClear, ViewClear, InBounds}
 use Rattle.meaning.proofs.Elements.{all-image, all-append, all-keep, all-common, all-self, all-from, any-all, each-at, each-images, all-combinations}
@@ -72,9 +72,9 @@ module _ (ss : List Schema) (M : ℕ → List Row) where
       let S = kept M fs w in
       let p : Row → Bool = λ k. satisfies h (together M gs S k) in
       let f : Row → Row = λ k. selected es (together M gs S k) in
-      rw (length-map (keep p (keys gs S)) f) (omega (
+      rw (length-map (keep p (groupKeys gs S)) f) (omega (
         arith,
-        length-keep p (keys gs S),
+        length-keep p (groupKeys gs S),
         length-firsts rowTest (map (keyOf gs) S),
         length-map S (keyOf gs),
         length-keep (λ m. satisfies w (alone M m)) (combinations (map M fs)),

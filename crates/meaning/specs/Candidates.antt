@@ -18,20 +18,20 @@ cellColumns [] = []
 cellColumns (t ∷ ts) = copies (t .rows) (t .columns) ++ cellColumns ts
 
 -- "The number N of candidates is the product of the column sizes, 1 with no cells": one factor for each cell
-abbrev pub product : List Column → ℕ
-product [] = 1
-product (c ∷ cs) = size c * product cs
+abbrev pub sizesProduct : List Column → ℕ
+sizesProduct [] = 1
+sizesProduct (c ∷ cs) = size c * sizesProduct cs
 
 -- the cells of candidate k
 abbrev pub values : List Column → ℕ → List Value
 values [] k = []
-values (c ∷ cs) k = digit c (k / product cs % size c) ∷ values cs k
+values (c ∷ cs) k = digit c (k / sizesProduct cs % size c) ∷ values cs k
 
 -- the number of a list of cells: "first cell most significant", each digit worth the product of the sizes behind it
 abbrev pub number : List Column → List Value → ℕ
 number [] vs = 0
 number (c ∷ cs) [] = 0
-number (c ∷ cs) (v ∷ vs) = digitOf c v * product cs + number cs vs
+number (c ∷ cs) (v ∷ vs) = digitOf c v * sizesProduct cs + number cs vs
 
 -- a list of cells, cut into rows of w and these into tables
 abbrev pub cutRows : {A : Type 0} → ℕ → ℕ → List A → List (List A)
@@ -49,7 +49,7 @@ module _ (F : File) where
   cellCount = length (cellColumns (F .tables))
 
   unfoldable pub candidates : ℕ
-  candidates = product (cellColumns (F .tables))
+  candidates = sizesProduct (cellColumns (F .tables))
 
   unfoldable pub cells : ℕ → List Value
   cells k = values (cellColumns (F .tables)) k

@@ -1,20 +1,18 @@
--- Positive and negative test cases: Definitions 1 to 4 of source document 000 over the algebra, and the Boolean that decides them. "It
--- is a case only if valid and some table has a row." What depends on the goal takes it as an argument. Assumes nothing: these
--- are definitions.
+-- Positive and negative test cases: Definitions 1 to 4 of source document 000 over the algebra. "It is a case only if
+-- valid and some table has a row." What depends on the goal takes it as an argument. Assumes nothing: these are definitions.
 use mathlib.Core.Path.{_≡_}
 use mathlib.Core.Logic.{_⊎_}
-use mathlib.Core.Bool.{Bool, true, false, _&&_, _||_, cond}
-use mathlib.Core.List.{List, []}
-use mathlib.Core.Option.{Option, none, some}
-use Prim.Native.Nat.{ℕ, zero, suc, _<_}
+use mathlib.Core.Bool.{Bool, true, false}
+use mathlib.Core.List.{List}
+use mathlib.Core.Option.{some}
+use Prim.Native.Nat.{ℕ, _<_}
 use lib.ListN.{length}
 use Rattle.value.specs.Bag.{count}
-use Rattle.meaning.specs.Lists.{Any, isPos, any}
+use Rattle.meaning.specs.Lists.{Any}
 use Rattle.meaning.specs.Syntax.{Expr, Cond, SetOperation, View, Place, Goal, File, Row, Database}
 use Rattle.meaning.specs.Evaluation.{rowTest}
-use Rattle.meaning.specs.Rows.{rowsOf, rows}
 use Rattle.meaning.specs.Algebra.{Bag, query, below, Means, IsMeaning, MeaningOf}
-use Rattle.meaning.specs.Valid.{Valid, valid}
+use Rattle.meaning.specs.Valid.{Valid}
 
 -- "a non-empty database instance": "some table has a row"
 abbrev pub NonEmpty : Database → Type 0
@@ -56,39 +54,3 @@ module _ (F : File) (d : Database) where
   pub record Case (g : Goal) : Type 0 where
     pub valid : Valid F d
     pub wanted : Wanted (g .negative) (g .view)
-
--- ---- the same, decided
-
-abbrev pub hasRow : Bag → Bool
-hasRow B = isPos (length B)
-
-unfoldable pub someRow : Database → Bool
-someRow d = any hasRow d
-
--- Definition 4: a union's operands are both negative, an intersection has a negative operand
-abbrev pub setNegative : SetOperation → Bool → Bool → Bool
-setNegative SetOperation.union a b = a && b
-setNegative SetOperation.intersection a b = a || b
-
--- whether a query is negative over the relations M, where `neg` says it of the relations themselves
-abbrev pub refuted : (ℕ → Bag) → (ℕ → Bool) → Option View → Bool
-refuted M neg none = false
-refuted M neg (some (View.basic fs w ss)) = hasRow (rowsOf M (View.basic fs (Cond.negated w) ss))
-refuted M neg (some (View.grouped fs w gs h ss)) =
-    hasRow (rowsOf M (View.grouped fs (Cond.negated w) gs h ss))
-    || (hasRow (rowsOf M (View.grouped fs w gs (Cond.negated h) ss))
-    || hasRow (rowsOf M (View.grouped fs (Cond.negated w) gs (Cond.negated h) ss)))
-refuted M neg (some (View.set op i j)) = setNegative op (neg i) (neg j)
-
--- the first argument is above v: set views join earlier ones
-abbrev pub negative : File → Database → ℕ → ℕ → Bool
-negative F d zero v = false
-negative F d (suc n) v = refuted (below v (rows F d)) (negative F d n) (query (length d) F v)
-
--- the same, computed
-abbrev pub wanted : File → Database → Goal → Bool
-wanted F d g = let v = g .view in cond (g .negative) (negative F d (suc v) v) (hasRow (rows F d v))
-
--- "It is a case only if valid and some table has a row"
-unfoldable pub isCase : File → Goal → Database → Bool
-isCase F g d = valid F d && (someRow d && wanted F d g)

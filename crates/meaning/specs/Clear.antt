@@ -11,7 +11,7 @@ use Rattle.range.specs.Ranges.{Inside}
 use Rattle.meaning.specs.Lists.{Any, Each, combinations}
 use Rattle.meaning.specs.Syntax.{Expr, Cond, View, Place, File, Row, Combination, Database}
 use Rattle.meaning.specs.Evaluation.{Scope, alone, value}
-use Rattle.meaning.specs.Rows.{keys, together, rows}
+use Rattle.meaning.specs.Rows.{groupKeys, together, rows}
 use Rattle.meaning.specs.Algebra.{query, below}
 use Rattle.meaning.specs.Bounds.{Schema, schema, schemas}
 
@@ -49,8 +49,8 @@ pub record Chosen (C S : List Combination) : Type 0 where
 -- where, at every combination; having and select, at every group of whichever combinations are kept
 pub record GroupedClear (M : ℕ → List Row) (fs : List ℕ) (w : Cond) (gs : List Place) (h : Cond) (es : List Expr) : Type 0 where
   pub condition : All (λ m. ClearC (alone M m) w) (combinations (map M fs))
-  pub having : {S : List Combination} → Chosen (combinations (map M fs)) S → All (λ k. ClearC (together M gs S k) h) (keys gs S)
-  pub select : {S : List Combination} → Chosen (combinations (map M fs)) S → All (λ k. All (ClearE (together M gs S k)) es) (keys gs S)
+  pub having : {S : List Combination} → Chosen (combinations (map M fs)) S → All (λ k. ClearC (together M gs S k) h) (groupKeys gs S)
+  pub select : {S : List Combination} → Chosen (combinations (map M fs)) S → All (λ k. All (ClearE (together M gs S k)) es) (groupKeys gs S)
 
 -- This covers the negated views of Definitions 2 and 3: they keep other combinations of the same product, and their conditions hold the
 -- same expressions

@@ -5,7 +5,7 @@ use Prim.Native.Nat.{ℕ, zero, suc, _≤_}
 use lib.IntN.{ℤ}
 use lib.ListN.{length}
 use Rattle.value.specs.Bag.{All}
-use Rattle.value.specs.Value.{Operation, Aggregate, aggregateAt, Value, apply, round, tally, total, TallyBetween, Column, Within}
+use Rattle.value.specs.Value.{Operation, Aggregate, aggregateAt, Value, apply, round, tally, total, TallyBetween, Column, InColumn}
 use Rattle.value.proofs.Order.{min-below, max-above}
 use Rattle.value.proofs.Values.{between-wider, between-self, apply-between, round-between, count-between, sum-tally, minimum-tally, maximum-tally, total-between}
 use Rattle.range.specs.Ranges.{Inside, constantOf, columnOf, hullOf, operatedOf, roundedOf, aggregatedOf}
@@ -14,7 +14,7 @@ use Rattle.range.specs.declared.Range.{Range}
 pub constant-inside : (z : ℤ) → Inside (constantOf z) (Value.number z)
 constant-inside z = between-self z
 
-pub column-inside : {c : Column} {v : Value} → Within c v → Inside (columnOf (c .lo) (c .hi)) v
+pub column-inside : {c : Column} {v : Value} → InColumn c v → Inside (columnOf (c .lo) (c .hi)) v
 column-inside w = w .bounds
 
 module _ {a : Range} {v : Value} (i : Inside a v) where

@@ -12,7 +12,8 @@ use Rattle.value.specs.Value.{shown}
 use Rattle.value.proofs.Decides.{by-test}
 use Rattle.meaning.specs.Syntax.{File}
 use Rattle.meaning.specs.Candidates.{cellCount, candidates, cells}
-use Rattle.meaning.specs.Look.{Answer, After, answerIn, instIn, numberOf, zeros, workSize, shownIn}
+use Rattle.meaning.specs.Look.{Answer, After, answerIn, instIn, numberOf, zeros, workSize}
+use Rattle.meaning.specs.Decided.{shownIn}
 use Rattle.meaning.proofs.Numbering.{length-cells}
 use Rattle.text.specs.Answers.{Written}
 use Rattle.text.proofs.Writing.{length-line}

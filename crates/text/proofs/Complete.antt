@@ -12,7 +12,7 @@ use lib.ListN.{length, length-append}
 use borrow.Author.Tests.{eqb-true, eqb-false, ltb-true, ltb-false}
 use Rattle.value.specs.Bag.{All}
 use Rattle.value.proofs.Decides.{by-test}
-use Rattle.text.specs.Text.{Lines, frames, refused, digit, State, between, half, wrong, lineAfter, closed, step, run, ended, linesOf, framesOf, hex, line, textOf, Frame, FirstWrong, Gives, accepted, empty, long, wrong-line}
+use Rattle.text.specs.Text.{Lines, frames, refused, hexValue, State, between, half, wrong, lineAfter, closed, step, run, ended, linesOf, framesOf, hex, line, textOf, Frame, FirstWrong, Gives, accepted, empty, long, wrong-line}
 use Rattle.text.proofs.Runs.{run-text}
 use Rattle.text.proofs.Laws.{Stuck, Spelt, stuck-half, spelt-whole, text-long, reads-back, only-such}
 use Rattle.text.proofs.Refusals.{empty-refused, long-refused, lines-within, refusal-number, empty-or-long, first-wrong}
@@ -34,20 +34,20 @@ module _ (gs : List (List ℕ)) where
 
   step-behind : (s : State) (c : ℕ) → step (behindAll gs s) c ≡ behindAll gs (step s c)
   unfolding step
-  step-behind (between done frame) c = go (eqb c 10) (ltb (digit c) 16) (ltb (length frame) 120)
+  step-behind (between done frame) c = go (eqb c 10) (ltb (hexValue c) 16) (ltb (length frame) 120)
     where
       go : (p q r : Bool)
-          → cond p (closed (gs ++ done) frame) (cond q (cond r (half (gs ++ done) frame (digit c)) (wrong (lineAfter (gs ++ done)))) (wrong (lineAfter (gs ++ done))))
-          ≡ behindAll gs (cond p (closed done frame) (cond q (cond r (half done frame (digit c)) (wrong (lineAfter done))) (wrong (lineAfter done))))
+          → cond p (closed (gs ++ done) frame) (cond q (cond r (half (gs ++ done) frame (hexValue c)) (wrong (lineAfter (gs ++ done)))) (wrong (lineAfter (gs ++ done))))
+          ≡ behindAll gs (cond p (closed done frame) (cond q (cond r (half done frame (hexValue c)) (wrong (lineAfter done))) (wrong (lineAfter done))))
       go true q r = closed-behind done frame
       go false true true = refl
       go false true false = later done
       go false false r = later done
-  step-behind (half done frame d) c = go (ltb (digit c) 16)
+  step-behind (half done frame d) c = go (ltb (hexValue c) 16)
     where
       go : (p : Bool)
-          → cond p (between (gs ++ done) (frame ++ (16 * d + digit c) ∷ [])) (wrong (lineAfter (gs ++ done)))
-          ≡ behindAll gs (cond p (between done (frame ++ (16 * d + digit c) ∷ [])) (wrong (lineAfter done)))
+          → cond p (between (gs ++ done) (frame ++ (16 * d + hexValue c) ∷ [])) (wrong (lineAfter (gs ++ done)))
+          ≡ behindAll gs (cond p (between done (frame ++ (16 * d + hexValue c) ∷ [])) (wrong (lineAfter done)))
       go true = refl
       go false = later done
   step-behind (wrong k) c = refl

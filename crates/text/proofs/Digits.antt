@@ -10,29 +10,29 @@ use lib.ListN.{length, getD, drop}
 use lib.Seq.{drop-cons}
 use borrow.Author.Tests.{lt-ltb, le-ltb, ne-eqb, ltb-true, ltb-false}
 use Rattle.value.proofs.Places.{from-byte}
-use Rattle.text.specs.Text.{digit, hexDigit}
+use Rattle.text.specs.Text.{hexValue, hexDigit}
 use Rattle.text.specs.Pair.{pairOf}
-use Rattle.text.specs.declared.Pair.the-variants.{Byte, Wrong}
+use Rattle.text.specs.declared.HexPair.the-variants.{Byte, Wrong}
 
 module _ (c : ℕ) where
-  pub digit-low : c < 48 → digit c ≡ 16
-  unfolding digit
+  pub digit-low : c < 48 → hexValue c ≡ 16
+  unfolding hexValue
   digit-low h = simp (lt-ltb c 48 h)
 
-  pub digit-ten : 48 ≤ c → c < 58 → digit c ≡ c - 48
-  unfolding digit
+  pub digit-ten : 48 ≤ c → c < 58 → hexValue c ≡ c - 48
+  unfolding hexValue
   digit-ten h k = simp (le-ltb c 48 h, lt-ltb c 58 k)
 
-  pub digit-mid : 58 ≤ c → c < 97 → digit c ≡ 16
-  unfolding digit
+  pub digit-mid : 58 ≤ c → c < 97 → hexValue c ≡ 16
+  unfolding hexValue
   digit-mid h k = simp (le-ltb c 48 (omega arith), le-ltb c 58 h, lt-ltb c 97 k)
 
-  pub digit-six : 97 ≤ c → c < 103 → digit c ≡ c - 87
-  unfolding digit
+  pub digit-six : 97 ≤ c → c < 103 → hexValue c ≡ c - 87
+  unfolding hexValue
   digit-six h k = simp (le-ltb c 48 (omega arith), le-ltb c 58 (omega arith), le-ltb c 97 h, lt-ltb c 103 k)
 
-  pub digit-high : 103 ≤ c → digit c ≡ 16
-  unfolding digit
+  pub digit-high : 103 ≤ c → hexValue c ≡ 16
+  unfolding hexValue
   digit-high h = simp (le-ltb c 48 (omega arith), le-ltb c 58 (omega arith), le-ltb c 97 (omega arith), le-ltb c 103 h)
 
 module _ (d : ℕ) where
@@ -47,11 +47,11 @@ module _ (d : ℕ) where
 -- ---- a digit written is read
 
 module _ (d : ℕ) (h : d < 16) where
-  pub digit-of-hex : digit (hexDigit d) ≡ d
+  pub digit-of-hex : hexValue (hexDigit d) ≡ d
   unfolding hexDigit
   digit-of-hex = go (ltb d 10) refl
     where
-      go : (t : Bool) → ltb d 10 ≡ t → digit (cond t (d + 48) (d + 87)) ≡ d
+      go : (t : Bool) → ltb d 10 ≡ t → hexValue (cond t (d + 48) (d + 87)) ≡ d
       go true e = let k : d < 10 = ltb-true d 10 e in digit-ten (d + 48) (omega arith) (omega arith) ∙ omega arith
       go false e = let k : 10 ≤ d = ltb-false d 10 e in digit-six (d + 87) (omega arith) (omega arith) ∙ omega arith
 
@@ -63,8 +63,8 @@ module _ (d : ℕ) (h : d < 16) where
       go true = ne-eqb (d + 48) 10 (omega arith)
       go false = ne-eqb (d + 87) 10 (omega arith)
 
-pub hex-of-digit : (c : ℕ) → digit c < 16 → hexDigit (digit c) ≡ c
-unfolding digit hexDigit
+pub hex-of-digit : (c : ℕ) → hexValue c < 16 → hexDigit (hexValue c) ≡ c
+unfolding hexValue hexDigit
 hex-of-digit c = go (ltb c 48) refl (ltb c 58) refl (ltb c 97) refl (ltb c 103) refl
   where
     go : (p : Bool) → ltb c 48 ≡ p → (q : Bool) → ltb c 58 ≡ q → (r : Bool) → ltb c 97 ≡ r → (s : Bool) → ltb c 103 ≡ s
@@ -94,16 +94,16 @@ module _ (text : List ℕ) (at : ℕ) (long : at + 1 < length text) where
   pair-two : pairOf (drop at text) ≡ pairOf (getD text at 0 ∷ getD text (at + 1) 0 ∷ drop (at + 2) text)
   pair-two = ap pairOf (drop-two text at long)
 
-  pub pair-high : 16 ≤ digit (getD text at 0) → pairOf (drop at text) ≡ Wrong
+  pub pair-high : 16 ≤ hexValue (getD text at 0) → pairOf (drop at text) ≡ Wrong
   unfolding pairOf
   pair-high h = pair-two ∙ simp (le-ltb _ 16 h)
 
-  pub pair-low : digit (getD text at 0) < 16 → 16 ≤ digit (getD text (at + 1) 0) → pairOf (drop at text) ≡ Wrong
+  pub pair-low : hexValue (getD text at 0) < 16 → 16 ≤ hexValue (getD text (at + 1) 0) → pairOf (drop at text) ≡ Wrong
   unfolding pairOf
   pair-low h k = pair-two ∙ simp (lt-ltb _ 16 h, le-ltb _ 16 k)
 
-  pub pair-both : digit (getD text at 0) < 16 → digit (getD text (at + 1) 0) < 16
-      → pairOf (drop at text) ≡ Byte (16 * digit (getD text at 0) + digit (getD text (at + 1) 0))
+  pub pair-both : hexValue (getD text at 0) < 16 → hexValue (getD text (at + 1) 0) < 16
+      → pairOf (drop at text) ≡ Byte (16 * hexValue (getD text at 0) + hexValue (getD text (at + 1) 0))
   unfolding pairOf
   pair-both h k = pair-two ∙ simp (lt-ltb _ 16 h, lt-ltb _ 16 k)
 

@@ -10,7 +10,7 @@ use lib.Dec.{ltb, eqb}
 use lib.ListN.{length, length-append}
 use borrow.Author.Tests.{le-ltb, ne-eqb, eqb-true, ltb-true}
 use Rattle.value.specs.Bag.{All}
-use Rattle.text.specs.Text.{frames, refused, digit, State, between, half, wrong, lineAfter, closed, step, run, ended, linesOf, framesOf, hexDigit, hex, line, textOf, Frame}
+use Rattle.text.specs.Text.{frames, refused, hexValue, State, between, half, wrong, lineAfter, closed, step, run, ended, linesOf, framesOf, hexDigit, hex, line, textOf, Frame}
 use Rattle.text.proofs.Digits.{hex-of-digit}
 use Rattle.text.proofs.Runs.{no, run-text}
 
@@ -121,24 +121,24 @@ close-spelt done (b ∷ bs) text h =
 
 step-spelt : (s : State) (text : List ℕ) (c : ℕ) → Spelt s text → Spelt (step s c) (text ++ c ∷ [])
 unfolding step
-step-spelt (between done frame) text c h = go (eqb c 10) refl (ltb (digit c) 16) refl (ltb (length frame) 120) refl
+step-spelt (between done frame) text c h = go (eqb c 10) refl (ltb (hexValue c) 16) refl (ltb (length frame) 120) refl
   where
-    go : (p : Bool) → eqb c 10 ≡ p → (q : Bool) → ltb (digit c) 16 ≡ q → (r : Bool) → ltb (length frame) 120 ≡ r
-        → Spelt (cond p (closed done frame) (cond q (cond r (half done frame (digit c)) (wrong (lineAfter done))) (wrong (lineAfter done)))) (text ++ c ∷ [])
+    go : (p : Bool) → eqb c 10 ≡ p → (q : Bool) → ltb (hexValue c) 16 ≡ q → (r : Bool) → ltb (length frame) 120 ≡ r
+        → Spelt (cond p (closed done frame) (cond q (cond r (half done frame (hexValue c)) (wrong (lineAfter done))) (wrong (lineAfter done)))) (text ++ c ∷ [])
     go true e q f r g = rw (eqb-true c 10 e) (close-spelt done frame text h)
     go false e true f true g =
-        let d : digit c < 16 = ltb-true _ _ f in
+        let d : hexValue c < 16 = ltb-true _ _ f in
         record { before = text; spelt = rw (hex-of-digit c d); begun = h; fewer = ltb-true _ _ g; small = d }
     go false e true f false g = stuck-open c h
     go false e false f r g = stuck-open c h
-step-spelt (half done frame d) text c h = go (ltb (digit c) 16) refl
+step-spelt (half done frame d) text c h = go (ltb (hexValue c) 16) refl
   where
-    go : (p : Bool) → ltb (digit c) 16 ≡ p → Spelt (cond p (between done (frame ++ (16 * d + digit c) ∷ [])) (wrong (lineAfter done))) (text ++ c ∷ [])
+    go : (p : Bool) → ltb (hexValue c) 16 ≡ p → Spelt (cond p (between done (frame ++ (16 * d + hexValue c) ∷ [])) (wrong (lineAfter done))) (text ++ c ∷ [])
     go true e =
-        let k : digit c < 16 = ltb-true _ _ e in
+        let k : hexValue c < 16 = ltb-true _ _ e in
         let s : d < 16 = h .small in
-        let high : (16 * d + digit c) / 16 ≡ d = omega arith in
-        let low : (16 * d + digit c) % 16 ≡ digit c = omega arith in
+        let high : (16 * d + hexValue c) / 16 ≡ d = omega arith in
+        let low : (16 * d + hexValue c) % 16 ≡ hexValue c = omega arith in
         record {
           spelt = rw (hex-snoc, high, low, hex-of-digit c k, h .spelt, h .begun .spelt) (simp append-assoc);
           all = h .begun .all;

@@ -16,7 +16,7 @@ use Rattle.text.specs.Text.{Lines, frames, refused, between, lineAfter, 
 use Rattle.text.specs.Pair.{pairOf}
 use Rattle.text.specs.Answers.{pack, Decoded, Blank}
 use Rattle.text.specs.declared.Frames.{Frames}
-use Rattle.text.specs.declared.Pair.the-variants.{Byte, Wrong}
+use Rattle.text.specs.declared.HexPair.the-variants.{Byte, Wrong}
 use Rattle.text.proofs.Runs.{pair-long, run-byte, run-close, run-no-pair, run-long, run-empty}
 
 pack-snoc : (done : List (List ℕ)) (f : List ℕ) → pack (done ++ f ∷ []) ≡ pack done ++ length f ∷ f

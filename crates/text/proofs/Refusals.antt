@@ -9,7 +9,7 @@ use native.Mathlib.Omega.{arith}
 use lib.Dec.{ltb, eqb}
 use lib.ListN.{length, length-append}
 use borrow.Author.Tests.{lt-ltb, le-ltb, eq-eqb, ne-eqb, eqb-true, ltb-true}
-use Rattle.text.specs.Text.{refused, digit, State, between, half, wrong, lineAfter, closed, step, run, ended, linesOf, framesOf, FirstWrong}
+use Rattle.text.specs.Text.{refused, hexValue, State, between, half, wrong, lineAfter, closed, step, run, ended, linesOf, framesOf, FirstWrong}
 use Rattle.text.proofs.Runs.{no, run-line, run-text}
 use Rattle.text.proofs.Laws.{Stuck, spelt-whole, ended-stuck}
 
@@ -26,17 +26,17 @@ closed-later done (b ∷ bs) = simp length-append (omega arith)
 
 step-later : (s : State) (c : ℕ) → lineOf s ≤ lineOf (step s c)
 unfolding step
-step-later (between done frame) c = go (eqb c 10) (ltb (digit c) 16) (ltb (length frame) 120)
+step-later (between done frame) c = go (eqb c 10) (ltb (hexValue c) 16) (ltb (length frame) 120)
   where
     go : (p q r : Bool)
-        → lineAfter done ≤ lineOf (cond p (closed done frame) (cond q (cond r (half done frame (digit c)) (wrong (lineAfter done))) (wrong (lineAfter done))))
+        → lineAfter done ≤ lineOf (cond p (closed done frame) (cond q (cond r (half done frame (hexValue c)) (wrong (lineAfter done))) (wrong (lineAfter done))))
     go true q r = closed-later done frame
     go false true true = omega arith
     go false true false = omega arith
     go false false r = omega arith
-step-later (half done frame d) c = go (ltb (digit c) 16)
+step-later (half done frame d) c = go (ltb (hexValue c) 16)
   where
-    go : (p : Bool) → lineAfter done ≤ lineOf (cond p (between done (frame ++ (16 * d + digit c) ∷ [])) (wrong (lineAfter done)))
+    go : (p : Bool) → lineAfter done ≤ lineOf (cond p (between done (frame ++ (16 * d + hexValue c) ∷ [])) (wrong (lineAfter done)))
     go true = omega arith
     go false = omega arith
 step-later (wrong k) c = omega arith

@@ -8,9 +8,9 @@ use lib.Dec.{ltb, eqb}
 use lib.ListN.{length, getD, drop, length-append}
 use borrow.Author.Tests.{lt-ltb, le-ltb}
 use Rattle.value.specs.Bag.{All}
-use Rattle.text.specs.Text.{refused, digit, between, half, wrong, lineAfter, closed, opened, step, run, ended, hexDigit, hex, line, textOf, Frame}
+use Rattle.text.specs.Text.{refused, hexValue, between, half, wrong, lineAfter, closed, opened, step, run, ended, hexDigit, hex, line, textOf, Frame}
 use Rattle.text.specs.Pair.{pairOf}
-use Rattle.text.specs.declared.Pair.the-variants.{Byte, Wrong}
+use Rattle.text.specs.declared.HexPair.the-variants.{Byte, Wrong}
 use Rattle.text.proofs.Digits.{hex-no-lf, pair-of-hex}
 
 -- a case that cannot be
@@ -41,7 +41,7 @@ module _ (done : List (List ℕ)) (frame : List ℕ) where
   run-byte [] v n few e = no cc
   run-byte (a ∷ []) v n few e = no cc
   run-byte (a ∷ b ∷ rest) v n few e =
-      let h = byte-tests (ltb (digit a) 16) (ltb (digit b) 16) e in
+      let h = byte-tests (ltb (hexValue a) 16) (ltb (hexValue b) 16) e in
       simp (n, h .0, h .1, lt-ltb (length frame) 120 few, h .2)
 
   pub run-close : (a : ℕ) (cs : List ℕ) → eqb a 10 ≡ true → 0 < length frame
@@ -63,7 +63,7 @@ module _ (done : List (List ℕ)) (frame : List ℕ) where
       go false u = refl
 
   -- a first digit, and then a character that makes no pair with it
-  pair-ends : (t u s : Bool) (d b w : ℕ) (rest : List ℕ) → ltb (digit b) 16 ≡ u → cond t (cond u (Byte w) Wrong) Wrong ≡ Wrong
+  pair-ends : (t u s : Bool) (d b w : ℕ) (rest : List ℕ) → ltb (hexValue b) 16 ≡ u → cond t (cond u (Byte w) Wrong) Wrong ≡ Wrong
       → ended (run (step (cond t (cond s (half done frame d) (wrong (lineAfter done))) (wrong (lineAfter done))) b) rest) ≡ refused 2 (lineAfter done)
   unfolding step
   pair-ends true true s d b w rest p e = no cc
@@ -75,14 +75,14 @@ module _ (done : List (List ℕ)) (frame : List ℕ) where
       → ended (run (between done frame) cs) ≡ refused 2 (lineAfter done)
   unfolding pairOf run step
   run-no-pair [] n h e = absurd (omega arith)
-  run-no-pair (a ∷ []) n h e = rw n (opened-ends (digit a))
+  run-no-pair (a ∷ []) n h e = rw n (opened-ends (hexValue a))
   run-no-pair (a ∷ b ∷ rest) n h e =
-      rw n (pair-ends (ltb (digit a) 16) (ltb (digit b) 16) (ltb (length frame) 120) (digit a) b (16 * digit a + digit b) rest refl e)
+      rw n (pair-ends (ltb (hexValue a) 16) (ltb (hexValue b) 16) (ltb (length frame) 120) (hexValue a) b (16 * hexValue a + hexValue b) rest refl e)
 
   pub run-long : (a : ℕ) (cs : List ℕ) → eqb a 10 ≡ false → 120 ≤ length frame
       → ended (run (between done frame) (a ∷ cs)) ≡ refused 2 (lineAfter done)
   unfolding run step
-  run-long a cs n h = rw (n, le-ltb (length frame) 120 h) (go (ltb (digit a) 16))
+  run-long a cs n h = rw (n, le-ltb (length frame) 120 h) (go (ltb (hexValue a) 16))
     where
       go : (t : Bool) → ended (run (cond t (wrong (lineAfter done)) (wrong (lineAfter done))) cs) ≡ refused 2 (lineAfter done)
       go true = ap ended (run-wrong (lineAfter done) cs)

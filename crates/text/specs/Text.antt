@@ -63,8 +63,8 @@ pub data Gives (text : List ℕ) : Lines → Type 0 where
 -- ---- the same, computed
 
 -- "digits 0-9 and a-f": the value of a digit, 16 for any other character
-unfoldable pub digit : ℕ → ℕ
-digit c = cond (ltb c 48) 16 (cond (ltb c 58) (c - 48) (cond (ltb c 97) 16 (cond (ltb c 103) (c - 87) 16)))
+unfoldable pub hexValue : ℕ → ℕ
+hexValue c = cond (ltb c 48) 16 (cond (ltb c 58) (c - 48) (cond (ltb c 97) 16 (cond (ltb c 103) (c - 87) 16)))
 
 -- how far reading has come: the frames of the lines before and the bytes of this line; the same and a first digit; a line that is wrong
 pub data State : Type 0 where
@@ -86,8 +86,8 @@ abbrev pub opened : List (List ℕ) → List ℕ → ℕ → State
 opened done frame d = cond (ltb d 16) (cond (ltb (length frame) 120) (half done frame d) (wrong (lineAfter done))) (wrong (lineAfter done))
 
 unfoldable pub step : State → ℕ → State
-step (between done frame) c = cond (eqb c 10) (closed done frame) (opened done frame (digit c))
-step (half done frame d) c = cond (ltb (digit c) 16) (between done (frame ++ (16 * d + digit c) ∷ [])) (wrong (lineAfter done))
+step (between done frame) c = cond (eqb c 10) (closed done frame) (opened done frame (hexValue c))
+step (half done frame d) c = cond (ltb (hexValue c) 16) (between done (frame ++ (16 * d + hexValue c) ∷ [])) (wrong (lineAfter done))
 step (wrong k) c = wrong k
 
 unfoldable pub run : State → List ℕ → State

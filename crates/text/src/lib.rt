@@ -2,7 +2,7 @@
 ghost use mathlib.Core.Path.{_≡_};
 ghost use Prim.Native.Nat.{_≤_, _<_};
 ghost use lib.ListN.{length, drop};
-ghost use Rattle.text.specs.Text.{digit, hexDigit, linesOf, framesOf};
+ghost use Rattle.text.specs.Text.{hexValue, hexDigit, linesOf, framesOf};
 ghost use Rattle.text.specs.Pair.{pairOf};
 ghost use Rattle.text.specs.Answers.{Decoded, Blank, Written};
 
@@ -18,14 +18,14 @@ pub struct Frames {
 }
 
 // The byte of two digits, or none.
-enum Pair {
+enum HexPair {
     Byte(u8),
     Wrong,
 }
 
 // The value of a digit; 16 for any other character.
 fn digit_of(c: u8) -> u8
-    ensures { λ r. ⌜ r ≡ digit c ⌝ }
+    ensures { λ r. ⌜ r ≡ hexValue c ⌝ }
 {
     match c {
         48..=57 => c - 48,
@@ -35,22 +35,22 @@ fn digit_of(c: u8) -> u8
 }
 
 // The byte whose two digits stand at `at`.
-fn pair_at(text: &[u8], at: usize) -> Pair
+fn pair_at(text: &[u8], at: usize) -> HexPair
     requires { ⌜ at < length (now text) ⌝ }
     ensures { λ r. ⌜ r ≡ pairOf (drop at (now (text .entry))) ⌝ }
 {
     if text.len() - at < 2 {
-        return Pair::Wrong;
+        return HexPair::Wrong;
     }
     let high = digit_of(text[at]);
     let low = digit_of(text[at + 1]);
     if 16 <= high {
-        return Pair::Wrong;
+        return HexPair::Wrong;
     }
     if 16 <= low {
-        return Pair::Wrong;
+        return HexPair::Wrong;
     }
-    Pair::Byte(16 * high + low)
+    HexPair::Byte(16 * high + low)
 }
 
 // A refusal, with room for frames.
@@ -88,7 +88,7 @@ fn lines_of(text: &[u8]) -> Frames
             if 120 <= size {
                 return r;
             }
-            let Pair::Byte(byte) = pair_at(text, at) else {
+            let HexPair::Byte(byte) = pair_at(text, at) else {
                 return r;
             };
             let place = start + 1 + size;

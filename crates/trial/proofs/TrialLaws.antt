@@ -11,7 +11,7 @@ use Rattle.meaning.specs.Syntax.{File, Database}
 use Rattle.meaning.specs.Algebra.{MeaningOf}
 use Rattle.meaning.specs.Bounds.{wellFormed}
 use Rattle.meaning.specs.Valid.{Shaped}
-use Rattle.meaning.specs.Cases.{isCase}
+use Rattle.meaning.specs.Decided.{isCase}
 use Rattle.meaning.proofs.Demand2.{cases}
 use Rattle.meaning.proofs.Relations.{rows-mean}
 use Rattle.language.specs.Check.{Outcome}
@@ -65,7 +65,7 @@ every-relation {g = g} {counts₁ = counts₁} {counts₂} {needed = needed} {as
         refuted-size = J .refuted-size;
       } in
       record {
-        verdict = ap (λ x. cond x 1 0) (J .case M first ∙ ap (λ x. isCase F x d) e);
+        case = ap (λ x. cond x 1 0) (J .case M first ∙ ap (λ x. isCase F x d) e);
         relation = λ i h. E .known M second .rows-known i h (record { on = getD-replicate 16 i 1 0 (omega (arith, M .legal .relationCount)) });
       };
 }
@@ -86,7 +86,7 @@ pub by-algebra : {F : File} {d : Database} {r : ℕ} {counts : List ℕ} {work :
 by-algebra {F} {d} w E =
     let decided = cases F w d in
     record {
-      verdict = ((λ q. dec-true decided (one-true (isCase F (F .goal) d) (E .verdict) q)), λ c. E .verdict ∙ ap (λ b. cond b 1 0) (true-dec decided c));
+      case = ((λ q. dec-true decided (one-true (isCase F (F .goal) d) (E .case) q)), λ c. E .case ∙ ap (λ b. cond b 1 0) (true-dec decided c));
       relation = λ i h. subst (MeaningOf F d i) (sym (E .relation i h)) (rows-mean F w d i);
     }
 

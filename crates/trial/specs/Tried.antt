@@ -11,7 +11,8 @@ use Rattle.meaning.specs.Rows.{rows}
 use Rattle.meaning.specs.Algebra.{MeaningOf}
 use Rattle.meaning.specs.Bounds.{schemas}
 use Rattle.meaning.specs.Valid.{Shaped}
-use Rattle.meaning.specs.Cases.{Case, isCase}
+use Rattle.meaning.specs.Cases.{Case}
+use Rattle.meaning.specs.Decided.{isCase}
 use Rattle.language.specs.Check.{Outcome}
 use Rattle.language.specs.Legal.{tableAt}
 use Rattle.catalog.specs.FileIn.{FileIn, goalOf}
@@ -26,14 +27,14 @@ pub record TablesStand (F : File) (d : Database) (work : List ℤ) : Type 0 wher
   pub table : (t : ℕ) → t < length (F .tables)
       → rowsIn work t (length (tableAt (F .tables) t .columns)) (tableAt (F .tables) t .rows) ≡ getD d t []
 
--- the verdict, and the rows of every relation
+-- whether it is a case, and the rows of every relation
 pub record Evaluated (F : File) (d : Database) (r : ℕ) (counts : List ℕ) (work : List ℤ) : Type 0 where
-  pub verdict : r ≡ cond (isCase F (F .goal) d) 1 0
+  pub case : r ≡ cond (isCase F (F .goal) d) 1 0
   pub relation : (i : ℕ) → i < length (F .tables) + length (F .views) → rowsIn work i (columnsOf (schemas F) i) (getD counts i 0) ≡ rows F d i
 
 -- the same by the algebra: the case of Definitions 1 to 4, and ⟨V⟩ of every relation
 pub record ByAlgebra (F : File) (d : Database) (r : ℕ) (counts : List ℕ) (work : List ℤ) : Type 0 where
-  pub verdict : (r ≡ 1) ↔ Case F d (F .goal)
+  pub case : (r ≡ 1) ↔ Case F d (F .goal)
   pub relation : (i : ℕ) → i < length (F .tables) + length (F .views) → MeaningOf F d i (rowsIn work i (columnsOf (schemas F) i) (getD counts i 0))
 
 -- of every file in memory, with its goal

@@ -11,7 +11,7 @@ use lib.ListN.{length}
 use lib.Signed.{_≤ℤ_}
 use Rattle.value.specs.Bag.{All, Same}
 use Rattle.value.specs.Integer.{low32, high32, low16, high16, minZ, maxZ, leastEnd, greatestEnd, roundZ}
-use Rattle.value.specs.Value.{Operation, operationAt, applyZ, Comparison, comparisonAt, Connective, connectiveAt, Aggregate, aggregateAt, sure, negate, holds, Value, apply, round, valueTest, Tally, start, combine, weight, gather, more, finish, tally, total, TallyBetween, TallyHeld, Between, between, Held, narrowed, narrowedTally, stored, shown, Cell, Column, Within, within, size, digit, digitOf}
+use Rattle.value.specs.Value.{Operation, operationAt, applyZ, Comparison, comparisonAt, Connective, connectiveAt, Aggregate, aggregateAt, sure, negate, holds, Value, apply, round, valueTest, Tally, start, combine, weight, gather, more, finish, tally, total, TallyBetween, TallyHeld, Between, between, Held, narrowed, narrowedTally, stored, shown, Cell, Column, InColumn, inColumn, size, digit, digitOf}
 use Rattle.value.proofs.Decides.{Decides, and-dec, by-dec}
 use Rattle.value.proofs.Linear.{‵, _⊕_, _⊗_, ≤-by, ≤-to, ≤-parts, sum-parts, diff-parts, magnitude-parts, ints}
 use Rattle.value.proofs.Order.{≤-trans, ≤-self, ≤-dec, min-below, max-above, below-min, above-max, min-comm, max-comm, min-assoc, max-assoc, In, sum-hull, difference-hull, product-hull, multiple-low, multiple-high}
@@ -81,7 +81,7 @@ between-dec lo hi (Value.number z) = by-dec (λ p. Between.number (p .0) (p .1))
     out : Between lo hi (Value.number z) → (lo ≤ℤ z) × (z ≤ℤ hi)
     out (Between.number a b) = (a, b)
 
-pub within-dec : (c : Column) (v : Value) → Decides (within c v) (Within c v)
+pub within-dec : (c : Column) (v : Value) → Decides (inColumn c v) (InColumn c v)
 within-dec c v = by-dec (λ b. record { bounds = b }) (λ w. w .bounds) (between-dec (c .lo) (c .hi) v)
 
 -- what 32 bits hold is kept
@@ -235,7 +235,7 @@ pub cell-number : {v : Value} {z : ℤ} → Cell v z → v ≡ Value.number z
 cell-number Cell.number = refl
 
 -- ---- digits: each value of a column is the value of exactly one digit
-pub digit-within : (c : Column) → c .lo ≤ℤ c .hi → (n : ℕ) → n < size c → Within c (digit c n)
+pub digit-within : (c : Column) → c .lo ≤ℤ c .hi → (n : ℕ) → n < size c → InColumn c (digit c n)
 unfolding size digit
 digit-within c h n l =
     record {
@@ -251,7 +251,7 @@ within-digit′ c (Between.number {z} l h) = (
   ap Value.number (omega (ints, sum-parts (c .lo) (pos (natAbs (z -ℤ c .lo))), diff-parts z (c .lo), magnitude-parts (z -ℤ c .lo))),
 )
 
-pub within-digit : (c : Column) {v : Value} → Within c v → (digitOf c v < size c) × (digit c (digitOf c v) ≡ v)
+pub within-digit : (c : Column) {v : Value} → InColumn c v → (digitOf c v < size c) × (digit c (digitOf c v) ≡ v)
 within-digit c w = within-digit′ c (w .bounds)
 
 pub digit-back : (c : Column) (n : ℕ) → digitOf c (digit c n) ≡ n

@@ -219,11 +219,11 @@ pub record Column : Type 0 where
   pub hi : ℤ
 
 -- "each value lies in its column's lo..hi"
-pub record Within (c : Column) (v : Value) : Type 0 where
+pub record InColumn (c : Column) (v : Value) : Type 0 where
   pub bounds : Between (c .lo) (c .hi) v
 
-abbrev pub within : Column → Value → Bool
-within c v = between (c .lo) (c .hi) v
+abbrev pub inColumn : Column → Value → Bool
+inColumn c v = between (c .lo) (c .hi) v
 
 -- "digit = value - lo": how many digits there are for a column, and the value of each
 unfoldable pub size : Column → ℕ

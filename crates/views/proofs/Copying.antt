@@ -11,7 +11,7 @@ use Rattle.store.specs.Layout.{columnLimit, cellIn}
 use Rattle.store.specs.Rows.{listed, rowIn, rowsIn, putRow, rowOf, withValue}
 use Rattle.store.specs.declared.Row.{Row as Values}
 use Rattle.store.proofs.RowLaws.{rows-none, rows-more, row-of-rows, row-of-none, row-of-length, with-next, put-length, put-other, put-grows}
-use Rattle.views.specs.Copies.{Apart, Fits, Copied, Joined}
+use Rattle.views.specs.Copies.{Apart, Fits, Copied, Union}
 
 -- ---- one row
 
@@ -77,7 +77,7 @@ copied-all {work} {work′} {source} {i} {count} {to} {at} {w} e c = rw (sym e) 
 
 -- ---- union
 
-pub joined : (work mid work′ : List ℤ) (left m right n to w : ℕ) → Copied work left m to 0 w mid → Copied mid right n to m w work′ → Joined work left m right n to w work′
+pub joined : (work mid work′ : List ℤ) (left m right n to w : ℕ) → Copied work left m to 0 w mid → Copied mid right n to m w work′ → Union work left m right n to w work′
 joined work mid work′ left m right n to w a b = record {
   apart = apart-more (a .apart) (b .apart);
   rows = λ p q f.

@@ -21,7 +21,7 @@ use Rattle.store.specs.Rows.{listed, rowIn, rowsIn, putRow, rowOf}
 use Rattle.store.specs.declared.Row.{Row as Values}
 use Rattle.store.proofs.Listed.{length-listed}
 use Rattle.store.proofs.RowLaws.{rows-none, rows-more, row-of-length, put-grows}
-use Rattle.views.specs.Copies.{Fits, Appended, Shared}
+use Rattle.views.specs.Copies.{Fits, Appended, Intersection}
 use Rattle.views.proofs.Copying.{apart-same, apart-more, apart-put, row-kept}
 
 -- ---- rows that are the same
@@ -97,11 +97,11 @@ left-out {keep} k = record {
   no = λ _. (refl, refl);
 }
 
-pub shared-none : (work : List ℤ) (left right n to w : ℕ) → Shared work left 0 right n to w 0 work
+pub shared-none : (work : List ℤ) (left right n to w : ℕ) → Intersection work left 0 right n to w 0 work
 shared-none work left right n to w =
     record { apart = apart-same to work; few = omega arith; rows = λ p q f. rw (rows-none work to w, rows-none work left w) }
 
-module _ {work now : List ℤ} {left i right n to w kept before there : ℕ} (s : Shared work left i right n to w kept now)
+module _ {work now : List ℤ} {left i right n to w kept before there : ℕ} (s : Intersection work left i right n to w kept now)
     (x : before ≡ count rowTest (rowIn now left w i) (rowsIn now left w i)) (y : there ≡ count rowTest (rowIn now left w i) (rowsIn now right w n)) where
   -- the rows that are read are as they were
   step-common : (left ≡ to → ⊥) → (right ≡ to → ⊥)
@@ -116,13 +116,13 @@ module _ {work now : List ℤ} {left i right n to w kept before there : ℕ} (s 
       ∙ common-snoc rowTest (rowsIn work left w i) (rowIn work left w i) (rowsIn work right w n)
       ∙ ap₂ (λ u v. common rowTest (rowsIn work left w i) (rowsIn work right w n) ++ cond (ltb u v) (rowIn work left w i ∷ []) []) (sym b) (sym t)
 
-  pub shared-more : {after : List ℤ} {next : ℕ} → Appended (ltb before there) now left i to kept w next after → Shared work left (i + 1) right n to w next after
+  pub shared-more : {after : List ℤ} {next : ℕ} → Appended (ltb before there) now left i to kept w next after → Intersection work left (i + 1) right n to w next after
   shared-more {after} {next} a = by-test (ltb before there) taken passed
     where
       less : Fits to (i + 1) w work → Fits to i w work
       less f = record { relation = f .relation; rows = omega (arith, f .rows); columns = f .columns; whole = f .whole }
 
-      taken : ltb before there ≡ true → Shared work left (i + 1) right n to w next after
+      taken : ltb before there ≡ true → Intersection work left (i + 1) right n to w next after
       taken t =
           let (row, read, put, count-is) = a .yes t in
           record {
@@ -136,7 +136,7 @@ module _ {work now : List ℤ} {left i right n to w kept before there : ℕ} (s 
                 ∙ sym (step-common p q ∙ ap (λ c. common rowTest (rowsIn work left w i) (rowsIn work right w n) ++ cond c (rowIn work left w i ∷ []) []) t);
           }
 
-      passed : ltb before there ≡ false → Shared work left (i + 1) right n to w next after
+      passed : ltb before there ≡ false → Intersection work left (i + 1) right n to w next after
       passed t =
           let (same, count-is) = a .no t in
           record {
@@ -148,5 +148,5 @@ module _ {work now : List ℤ} {left i right n to w kept before there : ℕ} (s 
                 ∙ append-nil (common rowTest (rowsIn work left w i) (rowsIn work right w n)));
           }
 
-pub shared-all : {work work′ : List ℤ} {left i m right n to w kept : ℕ} → i ≡ m → Shared work left i right n to w kept work′ → Shared work left m right n to w kept work′
+pub shared-all : {work work′ : List ℤ} {left i m right n to w kept : ℕ} → i ≡ m → Intersection work left i right n to w kept work′ → Intersection work left m right n to w kept work′
 shared-all e s = rw (sym e) s

@@ -28,7 +28,7 @@ pub record Copied (work : List ℤ) (source count to at w : ℕ) (work′ : List
   pub rows : (source ≡ to → ⊥) → Fits to (at + count) w work → rowsIn work′ to w (at + count) ≡ rowsIn work to w at ++ rowsIn work source w count
 
 -- "Union: left rows first"
-pub record Joined (work : List ℤ) (left m right n to w : ℕ) (work′ : List ℤ) : Type 0 where
+pub record Union (work : List ℤ) (left m right n to w : ℕ) (work′ : List ℤ) : Type 0 where
   pub apart : Apart to work work′
   pub rows : (left ≡ to → ⊥) → (right ≡ to → ⊥) → Fits to (m + n) w work → rowsIn work′ to w (m + n) ≡ rowsIn work left w m ++ rowsIn work right w n
 
@@ -40,7 +40,7 @@ pub record Appended (keep : Bool) (work : List ℤ) (source i to at w r : ℕ) (
   pub no : keep ≡ false → (work′ ≡ work) × (r ≡ at)
 
 -- "Intersection: the earliest such rows of the left"
-pub record Shared (work : List ℤ) (left m right n to w kept : ℕ) (work′ : List ℤ) : Type 0 where
+pub record Intersection (work : List ℤ) (left m right n to w kept : ℕ) (work′ : List ℤ) : Type 0 where
   pub apart : Apart to work work′
   pub few : kept ≤ m
   pub rows : (left ≡ to → ⊥) → (right ≡ to → ⊥) → Fits to m w work

@@ -8,7 +8,7 @@ ghost use Rattle.value.specs.Bag.{count};
 ghost use Rattle.meaning.specs.Evaluation.{rowTest};
 ghost use Rattle.store.specs.Layout.{columnLimit};
 ghost use Rattle.store.specs.Rows.{rowIn, rowsIn, rowOf};
-ghost use Rattle.views.specs.Copies.{Copied, Joined, Appended, Shared};
+ghost use Rattle.views.specs.Copies.{Copied, Union, Appended, Intersection};
 
 // A row of a relation by value.
 fn row_at(work: &[i32], relation: u8, i: u8, width: u8) -> Row
@@ -40,7 +40,7 @@ fn copy(work: &mut [i32], source: u8, count: u8, to: u8, at: u8, width: u8)
 // m rows of the left, and behind them n rows of the right.
 // Refused: the right's rows for the left's; the right's rows over the left's.
 pub fn union(work: &mut [i32], left: u8, m: u8, right: u8, n: u8, to: u8, width: u8)
-    ensures { λ _. ⌜ Joined (now (work .entry)) left m right n to width (now (work .exit)) ⌝ }
+    ensures { λ _. ⌜ Union (now (work .entry)) left m right n to width (now (work .exit)) ⌝ }
 {
     copy(work, left, m, to, 0, width);
     copy(work, right, n, to, m, width);
@@ -92,7 +92,7 @@ fn append(work: &mut [i32], keep: bool, source: u8, i: u8, to: u8, at: u8, width
 // The earliest of m rows of the left, each as often as in both, and their number.
 // Refused: each row that the right has; a row once only, as in a set.
 pub fn intersection(work: &mut [i32], left: u8, m: u8, right: u8, n: u8, to: u8, width: u8) -> u8
-    ensures { λ kept. ⌜ Shared (now (work .entry)) left m right n to width kept (now (work .exit)) ⌝ }
+    ensures { λ kept. ⌜ Intersection (now (work .entry)) left m right n to width kept (now (work .exit)) ⌝ }
 {
     let mut kept: u8 = 0;
     let mut i: u8 = 0;

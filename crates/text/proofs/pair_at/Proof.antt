@@ -4,7 +4,7 @@ use mathlib.Core.Path.{sym, ap₂, _∙_}
 use Prim.Native.Nat.{ℕ, _+_, _*_}
 use lib.ListN.{length-drop}
 use borrow.Author.Needs.{needs}
-use Rattle.text.specs.declared.Pair.the-variants.{Byte}
+use Rattle.text.specs.declared.HexPair.the-variants.{Byte}
 use Rattle.text.proofs.Digits.{pair-short, pair-high, pair-low, pair-both}
 use Rattle.text.proofs.pair_at.Statement.{statement}
 use Rattle.text.proofs.pair_at.Tie as tie

@@ -2,13 +2,13 @@
 use mathlib.Core.Path.{refl}
 use Prim.Native.Nat.{_-_, _≤_}
 use native.Mathlib.Omega.{arith}
-use Rattle.checker.specs.Plans.{Starts}
+use Rattle.checker.specs.Plans.{StartsOf}
 use Rattle.checker.proofs.WalkLaws.{starts-none, starts-more, starts-full}
 use Rattle.checker.proofs.plan.starts_of.Statement.{statement}
 use Rattle.checker.proofs.plan.starts_of.Tie as tie
 
 abbrev Inv-loop : tie.InvT-loop
-Inv-loop bytes tables keys starts₀ r₀ starts r = (r ≤ 16) × Starts bytes tables keys r starts
+Inv-loop bytes tables keys starts₀ r₀ starts r = (r ≤ 16) × StartsOf bytes tables keys r starts
 
 abbrev μ-loop : tie.MeasureT-loop
 μ-loop bytes tables keys starts₀ r₀ starts r = 16 - r

@@ -2,13 +2,13 @@
 use Prim.Native.Nat.{_*_, _-_, _≤_}
 use native.Mathlib.Omega.{arith}
 use borrow.Author.Needs.{needs}
-use Rattle.look.specs.Cells.{TablesCoded}
+use Rattle.look.specs.Cells.{CellsOf}
 use Rattle.look.proofs.CodeLaws.{tables-all, tables-none, tables-more, tables-few}
 use Rattle.look.proofs.cells.cells_of.Statement.{statement}
 use Rattle.look.proofs.cells.cells_of.Tie as tie
 
 abbrev Inv-loop : tie.InvT-loop
-Inv-loop shape tables codes₀ all₀ t₀ codes all t = TablesCoded shape t codes₀ all codes × (t ≤ tables) × (all ≤ t * 65025)
+Inv-loop shape tables codes₀ all₀ t₀ codes all t = CellsOf shape t codes₀ all codes × (t ≤ tables) × (all ≤ t * 65025)
 
 abbrev μ-loop : tie.MeasureT-loop
 μ-loop shape tables codes₀ all₀ t₀ codes all t = tables - t

@@ -19,8 +19,8 @@ slice-aggregate-needs-of-2 c = search needs
 needs-of-requires : tie.Need-needs-of-requires
 needs-of-requires c κs = search needs
 
-place-requires : tie.Need-place-requires
-place-requires c κs = search needs
+put-candidate-requires : tie.Need-put-candidate-requires
+put-candidate-requires c κs = search needs
 
 slice-aggregate-scan : tie.Need-slice-aggregate-scan
 slice-aggregate-scan c = search needs
@@ -44,7 +44,7 @@ returns : tie.Need-returns
 returns c =
     searches (c .before .before .before .before .before .before .before .before .before .before .before .before .before .before .before .before .before .before .count-tables .ensures)
     (c .before .before .before .before .before .before .before .before .before .before .before .before .before .before .needs-of .ensures)
-    (c .before .before .before .before .before .before .before .before .before .before .place .ensures) (c .before .before .before .scan .ensures)
+    (c .before .before .before .before .before .before .before .before .before .before .put-candidate .ensures) (c .before .before .before .scan .ensures)
 
 pub search-spec : {M : Type 1} → statement M
 search-spec =
@@ -55,7 +55,7 @@ search-spec =
     slice-aggregate-needs-of
     slice-aggregate-needs-of-2
     needs-of-requires
-    place-requires
+    put-candidate-requires
     slice-aggregate-scan
     slice-aggregate-scan-2
     slice-aggregate-scan-3

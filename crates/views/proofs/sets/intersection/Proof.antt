@@ -4,13 +4,13 @@ use Prim.Native.Nat.{_-_, _≤_}
 use native.Mathlib.Omega.{arith}
 use lib.ListN.{length}
 use borrow.Author.Needs.{needs}
-use Rattle.views.specs.Copies.{Shared}
+use Rattle.views.specs.Copies.{Intersection}
 use Rattle.views.proofs.Intersecting.{shared-none, shared-more, shared-all}
 use Rattle.views.proofs.sets.intersection.Statement.{statement}
 use Rattle.views.proofs.sets.intersection.Tie as tie
 
 abbrev Inv-loop : tie.InvT-loop
-Inv-loop work₀ left m right n to width kept₀ i₀ work kept i = (length work ≡ length work₀) × (i ≤ m) × Shared work₀ left i right n to width kept work
+Inv-loop work₀ left m right n to width kept₀ i₀ work kept i = (length work ≡ length work₀) × (i ≤ m) × Intersection work₀ left i right n to width kept work
 
 abbrev μ-loop : tie.MeasureT-loop
 μ-loop work₀ left m right n to width kept₀ i₀ work kept i = m - i

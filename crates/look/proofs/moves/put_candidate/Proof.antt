@@ -1,9 +1,9 @@
--- `look::moves::place` meets its contract. Assumes nothing.
+-- `look::moves::put_candidate` meets its contract. Assumes nothing.
 use native.Mathlib.Omega.{arith}
 use borrow.Author.Needs.{needs}
 use Rattle.look.proofs.MoveLaws.{Under, under-first, under-next, placed-all}
-use Rattle.look.proofs.moves.place.Statement.{statement}
-use Rattle.look.proofs.moves.place.Tie as tie
+use Rattle.look.proofs.moves.put_candidate.Statement.{statement}
+use Rattle.look.proofs.moves.put_candidate.Tie as tie
 
 abbrev Inv-loop : tie.InvT-loop
 Inv-loop shape ends codes cells k work₀ q₀ j₀ work q j = Under shape ends codes cells k k work₀ work j q
@@ -38,8 +38,8 @@ same-length c = c .before .loop .inv .length-kept
 returns : tie.Need-returns Inv-loop μ-loop
 returns c = placed-all (c .loop-test .left) (c .before .loop .inv)
 
-pub place-spec : {M : Type 1} → statement M
-place-spec =
+pub put-candidate-spec : {M : Type 1} → statement M
+put-candidate-spec =
     tie.close
     (tie.spec
     Inv-loop
