@@ -20,7 +20,7 @@ use Rattle.meaning.proofs.Stacks.{stack-keeps}
 use Rattle.language.specs.Legal.{LegalColumn, LegalTable, tableAt}
 pub use Rattle.catalog.specs.Arrays.{noColumn}
 use Rattle.catalog.specs.Arrays.{widthAt, boundAt, schemaIn, rangeAt, columnAt}
-use Rattle.catalog.specs.FileIn.{TablesIn, FileIn}
+use Rattle.catalog.specs.FileIn.{TablesKnown, FileIn}
 use Rattle.catalog.specs.declared.outline.Outline.{Outline}
 use Rattle.catalog.proofs.ArrayLaws.{none, length-ranges}
 
@@ -38,7 +38,7 @@ column-told c l = ap₂ (λ (a b : ℤ). record { lo = a; hi = b })
 
 -- arrays that hold the schemas of legal tables hold the tables
 pub tables-in : {ts : List Table} {shape : List ℕ} {ends : List ℤ} → All LegalTable ts
-    → ((t : ℕ) → t < length ts → schemaIn shape ends t ≡ tableSchema (tableAt ts t)) → TablesIn ts shape ends
+    → ((t : ℕ) → t < length ts → schemaIn shape ends t ≡ tableSchema (tableAt ts t)) → TablesKnown ts shape ends
 unfolding columnAt
 tables-in {ts} {shape} {ends} legal known = record {
   rows = λ t h. ap (λ (s : Schema). s .bound) (known t h);
@@ -59,7 +59,7 @@ module _ {F : File} {bytes starts shape : List ℕ} {ends : List ℤ} {o : Outli
   pub bound-is : (i : ℕ) → boundAt shape i ≡ schema (schemas F) i .bound
   bound-is i = ap (λ (s : Schema). s .bound) (M .known i)
 
-  pub tables-are : TablesIn (F .tables) shape ends
+  pub tables-are : TablesKnown (F .tables) shape ends
   tables-are = tables-in (M .legal .tables) (λ t h. M .known t ∙ table-schema F t h)
 
   -- of a table

@@ -22,7 +22,7 @@ use Rattle.catalog.specs.declared.plan.Goal.{Goal as GoalHere}
 use Rattle.catalog.specs.declared.plan.Plan.{Plan}
 
 -- tables, the first relations: how many rows and columns the arrays say each has, and which columns
-pub record TablesIn (ts : List Table) (shape : List ℕ) (ends : List ℤ) : Type 0 where
+pub record TablesKnown (ts : List Table) (shape : List ℕ) (ends : List ℤ) : Type 0 where
   pub rows : (t : ℕ) → t < length ts → boundAt shape t ≡ tableAt ts t .rows
   pub width : (t : ℕ) → t < length ts → widthAt shape t ≡ length (tableAt ts t .columns)
   pub column : (t c : ℕ) → t < length ts → c < length (tableAt ts t .columns) → columnAt shape ends t c ≡ getD (tableAt ts t .columns) c noColumn

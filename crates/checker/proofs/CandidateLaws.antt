@@ -13,7 +13,7 @@ use Rattle.meaning.specs.Candidates.{sizesProduct, cellColumns}
 use Rattle.meaning.proofs.Stacks.{by-lt}
 use Rattle.language.specs.Legal.{tableAt}
 use Rattle.catalog.specs.Arrays.{noColumn, columnAt}
-use Rattle.catalog.specs.FileIn.{TablesIn}
+use Rattle.catalog.specs.FileIn.{TablesKnown}
 use Rattle.checker.specs.CandidateCount.{tooMany, cappedProduct, columnsFrom, tableCells, cellsFrom, CandidatesOf}
 
 sub-one : (n : ℕ) → suc n - 1 ≡ n
@@ -69,7 +69,7 @@ module _ (shape : List ℕ) (ends : List ℤ) where
       ap₂ _++_ (ap (tableCells shape ends) e ∙ h 0 (omega arith))
       (cells-back (t + 1) ts (λ i l. let n : t + 1 + i ≡ t + suc i = omega arith in ap (tableCells shape ends) n ∙ h (suc i) (omega arith)))
 
-  table-back : {ts : List Table} → TablesIn ts shape ends → (t : ℕ) → t < length ts → tableCells shape ends t ≡ copies (tableAt ts t .rows) (tableAt ts t .columns)
+  table-back : {ts : List Table} → TablesKnown ts shape ends → (t : ℕ) → t < length ts → tableCells shape ends t ≡ copies (tableAt ts t .rows) (tableAt ts t .columns)
   unfolding tableCells
   table-back {ts} T t h = rw (T .rows t h, T .width t h)
       (ap (copies (tableAt ts t .rows)) (columns-back t 0 (tableAt ts t .columns) (λ i l. let z : 0 + i ≡ i = omega arith in ap (columnAt shape ends t) z ∙ T .column t i h l)))

@@ -31,7 +31,7 @@ use Rattle.language.proofs.Readers.{Byte}
 use Rattle.language.proofs.Accepted.{LegalDraft, legal-file, draft-file, Drafted, drafted}
 use Rattle.language.proofs.Turns.{draft, stage-views}
 use Rattle.catalog.specs.Frames.{frameAt}
-use Rattle.catalog.specs.FileIn.{TablesIn, FileIn, goalOf}
+use Rattle.catalog.specs.FileIn.{TablesKnown, FileIn, goalOf}
 use Rattle.catalog.specs.declared.plan.Plan.{Plan}
 use Rattle.catalog.proofs.FileLaws.{table-schema, tables-in}
 use Rattle.checker.specs.CandidateCount.{tooMany, CandidatesOf}
@@ -112,7 +112,7 @@ module _ (text : List ℕ) (r : Frames) (fs : List (List ℕ)) (e : framesOf tex
         let (_, good) = only-such text fs e in
         let bytes : All (All Byte) fs = all-map (λ f x. x .bytes) good in
         let wr : Drafted d fs = drafted fs d bytes q in
-        let tables : TablesIn (d .tables) shape ends =
+        let tables : TablesKnown (d .tables) shape ends =
         tables-in (wr .legal .tables) (λ t l. held .catalogued .schemas t ∙ table-schema (fileAt d g) t l) in
         record {
           draft-is = d;

@@ -10,7 +10,7 @@ use Rattle.meaning.specs.Syntax.{Table}
 use Rattle.meaning.specs.Candidates.{sizesProduct, cellColumns}
 use Rattle.language.specs.Check.{candidateLimit}
 use Rattle.catalog.specs.Arrays.{widthAt, boundAt, columnAt}
-use Rattle.catalog.specs.FileIn.{TablesIn}
+use Rattle.catalog.specs.FileIn.{TablesKnown}
 
 -- the first number that is too large stands for all of them
 abbrev pub tooMany : ℕ
@@ -38,4 +38,4 @@ cellsFrom shape ends t zero = []
 cellsFrom shape ends t (suc n) = tableCells shape ends t ++ cellsFrom shape ends (t + 1) n
 
 pub record CandidatesOf (shape : List ℕ) (ends : List ℤ) (tables r : ℕ) : Type 0 where
-  pub counted : (ts : List Table) → TablesIn ts shape ends → tables ≡ length ts → r ≡ min (sizesProduct (cellColumns ts)) tooMany
+  pub counted : (ts : List Table) → TablesKnown ts shape ends → tables ≡ length ts → r ≡ min (sizesProduct (cellColumns ts)) tooMany
