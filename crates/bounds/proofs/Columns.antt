@@ -9,6 +9,7 @@ use lib.IntN.{ℤ, pos}
 use lib.ListN.{length, getD, List·getD-eq-default, length-map}
 use mir.Syntax.{w32}
 use mir.Val.{SFits}
+use Rattle.value.proofs.Decides.{by-test}
 use Rattle.range.specs.Ranges.{ranged, constantOf}
 use Rattle.range.specs.declared.Range.{Range}
 use Rattle.range.specs.declared.Ranged.the-variants.{Within}
@@ -17,7 +18,7 @@ use Rattle.meaning.specs.Syntax.{Place}
 use Rattle.meaning.specs.Bounds.{anyColumn, groupingColumn}
 use Rattle.meaning.proofs.ListSteps.{map-at}
 use Rattle.catalog.specs.Arrays.{rangesIn, rangeAt, itemsIn}
-use Rattle.bounds.specs.Walk.{placesFrom, columnIn, columnsOf}
+use Rattle.bounds.specs.Walk.{placesFrom, columnIn, permittedOf}
 use Rattle.bounds.specs.declared.Rule.{Rule}
 
 -- ---- columns
@@ -92,10 +93,15 @@ module _ (frame : List ℕ) where
 
 -- which columns may stand outside 07, in where and in having and select
 module _ (frame : List ℕ) (rule : Rule) where
-  pub columns-any : rule .grouped ≡ false → columnsOf frame rule ≡ anyColumn
-  unfolding columnsOf
+  pub columns-any : rule .grouped ≡ false → permittedOf frame rule .columns ≡ anyColumn
+  unfolding permittedOf
   columns-any e = rw e
 
-  pub columns-grouping : rule .grouped ≡ true → columnsOf frame rule ≡ groupingColumn (placesFrom frame (rule .places) (rule .count))
-  unfolding columnsOf
+  pub columns-grouping : rule .grouped ≡ true → permittedOf frame rule .columns ≡ groupingColumn (placesFrom frame (rule .places) (rule .count))
+  unfolding permittedOf
   columns-grouping e = rw e
+
+  -- and where 07 may stand
+  pub aggregates-are : permittedOf frame rule .aggregates ≡ rule .grouped
+  unfolding permittedOf
+  aggregates-are = by-test (rule .grouped) (λ t. rw t) (λ t. rw t)

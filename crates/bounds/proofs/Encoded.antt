@@ -9,23 +9,22 @@ use Rattle.language.specs.Prefix.{encodeE, encodeC}
 use Rattle.language.specs.Reading.{readE, readC, InLimitsE, InLimitsC}
 use Rattle.meaning.specs.Bounds.{withinC, allowedE, allowedC}
 use Rattle.language.proofs.PrefixForms.{backE, backC}
-use Rattle.catalog.specs.Arrays.{itemsIn}
-use Rattle.bounds.specs.Walk.{columnsOf, widthsIn, rangedE, SizesE, TestsC}
+use Rattle.bounds.specs.Walk.{permittedOf, openIn, openRangesIn, rangedE, SizesE, TestsC}
 use Rattle.bounds.specs.declared.Rule.{Rule}
 use Rattle.bounds.specs.declared.Sized.{Sized}
 use Rattle.bounds.specs.declared.Tested.{Tested}
 
 module _ {frame : List ℕ} {at : ℕ} {items shape : List ℕ} {ends : List ℤ} {rule : Rule} where
   pub encoded-sizes : {r : Sized} → SizesE frame at items shape ends rule r
-      → (e : Expr) (rest : List ℕ) → drop at frame ≡ encodeE e ++ rest → InLimitsE (widthsIn shape items) e
+      → (e : Expr) (rest : List ℕ) → drop at frame ≡ encodeE e ++ rest → InLimitsE (openIn shape items) e
       → (drop (r .next) frame ≡ rest)
-      × (r .allowed ≡ allowedE (columnsOf frame rule) (rule .grouped) e)
-      × (r .range ≡ rangedE (itemsIn shape ends items) (rule .bound) e)
-  encoded-sizes s e rest h l = s .sizes e rest (ap (readE (widthsIn shape items)) h ∙ backE (widthsIn shape items) e rest l)
+      × (r .allowed ≡ allowedE (permittedOf frame rule) e)
+      × (r .range ≡ rangedE (openRangesIn shape ends items (rule .bound)) e)
+  encoded-sizes s e rest h l = s .sizes e rest (ap (readE (openIn shape items)) h ∙ backE (openIn shape items) e rest l)
 
   pub encoded-tests : {r : Tested} → TestsC frame at items shape ends rule r
-      → (c : Cond) (rest : List ℕ) → drop at frame ≡ encodeC c ++ rest → InLimitsC (widthsIn shape items) c
+      → (c : Cond) (rest : List ℕ) → drop at frame ≡ encodeC c ++ rest → InLimitsC (openIn shape items) c
       → (drop (r .next) frame ≡ rest)
-      × (r .allowed ≡ allowedC (columnsOf frame rule) (rule .grouped) c)
-      × (r .within ≡ withinC (itemsIn shape ends items) (rule .bound) c)
-  encoded-tests s c rest h l = s .tests c rest (ap (readC (widthsIn shape items)) h ∙ backC (widthsIn shape items) c rest l)
+      × (r .allowed ≡ allowedC (permittedOf frame rule) c)
+      × (r .within ≡ withinC (openRangesIn shape ends items (rule .bound)) c)
+  encoded-tests s c rest h l = s .tests c rest (ap (readC (openIn shape items)) h ∙ backC (openIn shape items) c rest l)

@@ -12,8 +12,8 @@ use Rattle.range.specs.declared.Ranged.{Ranged}
 use Rattle.range.specs.declared.Ranged.the-variants.{Within, Beyond}
 use Rattle.meaning.specs.Syntax.{Expr}
 use Rattle.meaning.specs.Bounds.{allowedE}
-use Rattle.catalog.specs.Arrays.{rangesFrom, itemsIn}
-use Rattle.bounds.specs.Walk.{placesFrom, columnsOf, columnIn, rangedE}
+use Rattle.catalog.specs.Arrays.{rangesFrom}
+use Rattle.bounds.specs.Walk.{placesFrom, permittedOf, columnIn, openRangesIn, rangedE}
 
 abbrev shape : List ℕ
 shape = 1 ∷ 2 ∷ 4 ∷ 1 ∷ []
@@ -44,7 +44,7 @@ unfolding columnIn rangesFrom
 not-there = refl
 
 abbrev answer : Expr → Ranged
-answer e = rangedE (itemsIn shape ends (0 ∷ [])) 4 e
+answer e = rangedE (openRangesIn shape ends (0 ∷ []) 4) e
 
 of-a-sum : answer (total (column 1)) ≡ Within (columnOf (negsuc 19) (pos 20))
 unfolding rangedE rangesFrom minZ maxZ
@@ -59,24 +59,24 @@ inside-counts = refl
 
 abbrev permitted : Bool → Expr → Bool
 permitted grouped e =
-    allowedE (columnsOf (0 ∷ 1 ∷ []) (record { bound = 4; grouped = grouped; places = 0; count = 1 })) grouped e
+    allowedE (permittedOf (0 ∷ 1 ∷ []) (record { bound = 4; grouped = grouped; places = 0; count = 1 })) e
 
 grouping-column : permitted true (column 1) ≡ true
-unfolding columnsOf placesFrom
+unfolding permittedOf placesFrom
 grouping-column = refl
 
 other-column : permitted true (column 0) ≡ false
-unfolding columnsOf placesFrom
+unfolding permittedOf placesFrom
 other-column = refl
 
 other-column-inside : permitted true (total (column 0)) ≡ true
-unfolding columnsOf placesFrom
+unfolding permittedOf placesFrom
 other-column-inside = refl
 
 inside-another : permitted true (total (total (column 0))) ≡ false
-unfolding columnsOf placesFrom
+unfolding permittedOf placesFrom
 inside-another = refl
 
 in-where : permitted false (total (column 0)) ≡ false
-unfolding columnsOf placesFrom
+unfolding permittedOf placesFrom
 in-where = refl

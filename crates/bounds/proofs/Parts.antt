@@ -12,9 +12,8 @@ use Rattle.range.specs.declared.Range.{Range}
 use Rattle.range.specs.declared.Ranged.{Ranged}
 use Rattle.range.specs.declared.Ranged.the-variants.{Within, Beyond}
 use Rattle.meaning.specs.Syntax.{Expr, Cond}
-use Rattle.meaning.specs.Bounds.{range, withinE, withinC}
-use Rattle.catalog.specs.Arrays.{itemsIn}
-use Rattle.bounds.specs.Walk.{columnIn, rangedE, operatedR, roundedR, hullR, chosenR, aggregatedR, isWithin}
+use Rattle.meaning.specs.Bounds.{OpenRanges, range, withinE, withinC}
+use Rattle.bounds.specs.Walk.{columnIn, openRangesIn, rangedE, operatedR, roundedR, hullR, chosenR, aggregatedR, isWithin}
 
 -- the range, if it and the parts fit
 abbrev fitting : Bool → Range → Ranged
@@ -57,43 +56,43 @@ unfolding isWithin
 fitting-is true a = refl
 fitting-is false a = refl
 
-module _ (I : List (List Range)) (R : ℕ) where
-  pub ranged-constant : (z : ℤ) → ranged (constantOf z) ≡ rangedE I R (Expr.constant z)
+module _ (o : OpenRanges) where
+  pub ranged-constant : (z : ℤ) → ranged (constantOf z) ≡ rangedE o (Expr.constant z)
   unfolding rangedE ranged
   ranged-constant z = refl
 
-  pub ranged-operation : (op : Operation) (a b : Expr) → operatedR op (rangedE I R a) (rangedE I R b) ≡ rangedE I R (Expr.operation op a b)
+  pub ranged-operation : (op : Operation) (a b : Expr) → operatedR op (rangedE o a) (rangedE o b) ≡ rangedE o (Expr.operation op a b)
   unfolding rangedE
-  ranged-operation op a b = sym (of-operation op (withinE I R a) (withinE I R b) (range I R a) (range I R b))
+  ranged-operation op a b = sym (of-operation op (withinE o a) (withinE o b) (range o a) (range o b))
 
-  pub ranged-rounding : (m : ℕ) (a : Expr) → roundedR m (rangedE I R a) ≡ rangedE I R (Expr.rounding m a)
+  pub ranged-rounding : (m : ℕ) (a : Expr) → roundedR m (rangedE o a) ≡ rangedE o (Expr.rounding m a)
   unfolding rangedE
-  ranged-rounding m a = sym (of-rounding m (withinE I R a) (range I R a))
+  ranged-rounding m a = sym (of-rounding m (withinE o a) (range o a))
 
-  pub ranged-choice : (c : Cond) (a b : Expr) → chosenR (withinC I R c) (rangedE I R a) (rangedE I R b) ≡ rangedE I R (Expr.choice c a b)
+  pub ranged-choice : (c : Cond) (a b : Expr) → chosenR (withinC o c) (rangedE o a) (rangedE o b) ≡ rangedE o (Expr.choice c a b)
   unfolding rangedE
-  ranged-choice c a b = sym (of-choice (withinC I R c) (withinE I R a) (withinE I R b) (range I R a) (range I R b))
+  ranged-choice c a b = sym (of-choice (withinC o c) (withinE o a) (withinE o b) (range o a) (range o b))
 
-  pub ranged-aggregate : (op : Aggregate) (a : Expr) → aggregatedR op R (rangedE I R a) ≡ rangedE I R (Expr.aggregate op a)
+  pub ranged-aggregate : (op : Aggregate) (a : Expr) → aggregatedR op (o .bound) (rangedE o a) ≡ rangedE o (Expr.aggregate op a)
   unfolding rangedE
-  ranged-aggregate op a = sym (of-aggregate op R (withinE I R a) (range I R a))
+  ranged-aggregate op a = sym (of-aggregate op (o .bound) (withinE o a) (range o a))
 
-  pub ranged-is : (a : Expr) → isWithin (rangedE I R a) ≡ withinE I R a
+  pub ranged-is : (a : Expr) → isWithin (rangedE o a) ≡ withinE o a
   unfolding rangedE
-  ranged-is a = fitting-is (withinE I R a) (range I R a)
+  ranged-is a = fitting-is (withinE o a) (range o a)
 
   -- what the two answers say of the expression
-  pub ranged-answered : (e : Expr) {q : Range} → rangedE I R e ≡ Within q → (q ≡ range I R e) × (withinE I R e ≡ true)
+  pub ranged-answered : (e : Expr) {q : Range} → rangedE o e ≡ Within q → (q ≡ range o e) × (withinE o e ≡ true)
   unfolding rangedE
-  ranged-answered e {q} h = by-test (withinE I R e)
-      (λ t. let w : Within (range I R e) ≡ Within q = rw t at h in let i : range I R e ≡ q = cc in (sym i, t))
+  ranged-answered e {q} h = by-test (withinE o e)
+      (λ t. let w : Within (range o e) ≡ Within q = rw t at h in let i : range o e ≡ q = cc in (sym i, t))
       (λ t. let w : Beyond ≡ Within q = rw t at h in let z : _≡_ {A = ℕ} 0 1 = cc in absurd (omega arith))
 
-  pub ranged-beyond : (e : Expr) → rangedE I R e ≡ Beyond → withinE I R e ≡ false
+  pub ranged-beyond : (e : Expr) → rangedE o e ≡ Beyond → withinE o e ≡ false
   unfolding isWithin
   ranged-beyond e h = sym (ranged-is e) ∙ ap isWithin h
 
 pub ranged-column : (shape : List ℕ) (ends : List ℤ) (items : List ℕ) (R i c : ℕ)
-    → ranged (columnIn shape ends items i c) ≡ rangedE (itemsIn shape ends items) R (Expr.column i c)
+    → ranged (columnIn shape ends items i c) ≡ rangedE (openRangesIn shape ends items R) (Expr.column i c)
 unfolding rangedE ranged columnIn
 ranged-column shape ends items R i c = refl

@@ -13,20 +13,19 @@ use borrow.Author.Tests.{ne-eqb}
 use Rattle.value.specs.Integer.{bytesZ}
 use Rattle.value.specs.Value.{operationAt, comparisonAt, connectiveAt, aggregateAt}
 use Rattle.range.specs.Ranges.{ranged, constantOf}
-use Rattle.range.specs.declared.Range.{Range}
 use Rattle.range.specs.declared.Ranged.{Ranged}
 use Rattle.meaning.specs.Syntax.{Expr, Cond}
 use Rattle.language.specs.Prefix.{operationToken, comparisonToken, connectiveToken}
-use Rattle.language.specs.Reading.{Read, byte, byteIf, step, choose, expressions, conditions, readE, readC}
-use Rattle.meaning.specs.Bounds.{withinC, allowedE, allowedC}
+use Rattle.language.specs.Reading.{Read, Open, byte, byteIf, step, choose, expressions, conditions, readE, readC}
+use Rattle.meaning.specs.Bounds.{OpenRanges, withinC, allowedE, allowedC}
 use Rattle.language.proofs.Readers.{then-ok}
 use Rattle.language.proofs.PrefixForms.{readE-nil, readC-nil, readE-step, readC-step, readE-operation, readC-comparison, readC-connection}
-use Rattle.catalog.specs.Arrays.{itemsIn}
-use Rattle.bounds.specs.Walk.{columnsOf, insideOf, widthsIn, rangedE, operatedR, roundedR, chosenR, aggregatedR, isWithin, sized, tested, columnAt, SizesE, SizesTwo, TestsC}
+use Rattle.bounds.specs.Walk.{permittedOf, insideOf, openIn, openRangesIn, rangedE, operatedR, roundedR, chosenR, aggregatedR, isWithin, sized, tested, columnAt, SizesE, SizesTwo, TestsC}
 use Rattle.bounds.specs.declared.Rule.{Rule}
 use Rattle.bounds.specs.declared.Sized.{Sized}
 use Rattle.bounds.specs.declared.TwoSized.{TwoSized}
 use Rattle.bounds.specs.declared.Tested.{Tested}
+use Rattle.bounds.proofs.Columns.{aggregates-are}
 use Rattle.bounds.proofs.Fields.{settle, never, byte-ok, two-read, step-at, column-at, kind-at}
 use Rattle.bounds.proofs.Parts.{ranged-constant, ranged-column, ranged-operation, ranged-rounding, ranged-choice, ranged-aggregate, ranged-is}
 
@@ -47,20 +46,20 @@ connective-token zero h = refl
 connective-token (suc k) h = let z : k ≡ 0 = omega arith in rw z
 
 module _ (frame items shape : List ℕ) (ends : List ℤ) (rule : Rule) where
-  abbrev W : List ℕ
-  W = widthsIn shape items
+  abbrev W : Open
+  W = openIn shape items
 
-  abbrev I : List (List Range)
-  I = itemsIn shape ends items
+  abbrev I : OpenRanges
+  I = openRangesIn shape ends items (rule .bound)
 
   -- what is known of an expression that was read, and of a condition
   abbrev FactsE : Sized → Expr → List ℕ → Type 0
   FactsE r e rest =
-      (drop (r .next) frame ≡ rest) × (r .allowed ≡ allowedE (columnsOf frame rule) (rule .grouped) e) × (r .range ≡ rangedE I (rule .bound) e)
+      (drop (r .next) frame ≡ rest) × (r .allowed ≡ allowedE (permittedOf frame rule) e) × (r .range ≡ rangedE I e)
 
   abbrev FactsC : Tested → Cond → List ℕ → Type 0
   FactsC r c rest =
-      (drop (r .next) frame ≡ rest) × (r .allowed ≡ allowedC (columnsOf frame rule) (rule .grouped) c) × (r .within ≡ withinC I (rule .bound) c)
+      (drop (r .next) frame ≡ rest) × (r .allowed ≡ allowedC (permittedOf frame rule) c) × (r .within ≡ withinC I c)
 
   module _ (at : ℕ) where
     pub two-in-turn : {a b : Sized} → SizesE frame at items shape ends rule a → SizesE frame (a .next) items shape ends rule b
@@ -117,11 +116,11 @@ module _ (frame items shape : List ℕ) (ends : List ℤ) (rule : Rule) where
           let (g, m, u, z) = then-ok (byte l) _ j in
           let t = two-read frame (at + 1) (byte-ok body p) (byte-ok l u) in
           settle (FactsE (sized (at + 1 + 2) true (ranged (constantOf (bytesZ (getD frame (at + 1) 0) (getD frame (at + 1 + 1) 0)))))) z
-          (t .behind, refl, ap₂ (λ i j. ranged (constantOf (bytesZ i j))) (t .first) (t .second) ∙ ranged-constant I (rule .bound) (bytesZ h g))))
+          (t .behind, refl, ap₂ (λ i j. ranged (constantOf (bytesZ i j))) (t .first) (t .second) ∙ ranged-constant I (bytesZ h g))))
 
       pub on-column : getD frame at 0 ≡ 0x01 → {r : Sized} → r ≡ columnAt frame (at + 1) items shape ends rule → SizesE frame at items shape ends rule r
       on-column k s = rw s (onE (atE 0x01 k) (omega arith) (λ e rest q.
-          let t = column-at frame W (at + 1) q in
+          let t = column-at frame (W .widths) (at + 1) q in
           rw (t .0) (t .1, refl, ranged-column shape ends items (rule .bound) (getD frame (at + 1) 0) (getD frame (at + 1 + 1) 0))))
 
       pub on-operation : 0x02 ≤ getD frame at 0 → getD frame at 0 < 0x05 → {p : TwoSized} → SizesTwo frame (at + 1) items shape ends rule p
@@ -136,7 +135,7 @@ module _ (frame items shape : List ℕ) (ends : List ℤ) (rule : Rule) where
           let (b, n, u, z) = then-ok (readE W l) _ j in
           let f = m .sizes a b l n y u in
           settle (FactsE (sized (p .next) (p .allowed) v)) z
-          (f .0, f .1, x ∙ ap₂ (operatedR op) (f .2) (f .3) ∙ ranged-operation I (rule .bound) op a b)))
+          (f .0, f .1, x ∙ ap₂ (operatedR op) (f .2) (f .3) ∙ ranged-operation I op a b)))
 
       pub on-rounding : getD frame at 0 ≡ 0x05 → {a : Sized} → SizesE frame (at + 1 + 2) items shape ends rule a
           → {m : ℕ} → m ≡ getD frame (at + 1) 0 * 256 + getD frame (at + 1 + 1) 0
@@ -147,7 +146,7 @@ module _ (frame items shape : List ℕ) (ends : List ℤ) (rule : Rule) where
           let t = step-at frame (at + 1) h in
           let f = d .sizes b o (ap (readE W) (t .behind) ∙ u) in
           settle (FactsE (sized (a .next) (a .allowed) (roundedR m (a .range)))) z
-          (f .0, f .1, ap₂ roundedR (e ∙ sym (t .number)) (f .2) ∙ ranged-rounding I (rule .bound) n b)))
+          (f .0, f .1, ap₂ roundedR (e ∙ sym (t .number)) (f .2) ∙ ranged-rounding I n b)))
 
       pub on-choice : getD frame at 0 ≡ 0x06 → {c : Tested} → TestsC frame (at + 1) items shape ends rule c
           → {p : TwoSized} → SizesTwo frame (c .next) items shape ends rule p
@@ -158,15 +157,15 @@ module _ (frame items shape : List ℕ) (ends : List ℤ) (rule : Rule) where
           let (b, o, w, z) = then-ok (readE W n) _ i in
           let g = d .tests t l h in
           let f = m .sizes a b n o (ap (readE W) (g .0) ∙ u) w in
-          let v : chosenR (c .within) (p .first) (p .second) ≡ chosenR (withinC I (rule .bound) t) (rangedE I (rule .bound) a) (rangedE I (rule .bound) b) =
+          let v : chosenR (c .within) (p .first) (p .second) ≡ chosenR (withinC I t) (rangedE I a) (rangedE I b) =
           rw (g .2, f .2, f .3) in
           settle (FactsE (sized (p .next) (c .allowed && p .allowed) (chosenR (c .within) (p .first) (p .second)))) z
-          (f .0, ap₂ _&&_ (g .1) (f .1), v ∙ ranged-choice I (rule .bound) t a b)))
+          (f .0, ap₂ _&&_ (g .1) (f .1), v ∙ ranged-choice I t a b)))
 
       pub on-aggregate : getD frame at 0 ≡ 0x07 → {n : ℕ} → n ≡ getD frame (at + 1) 0 → {inner : Rule} → inner ≡ insideOf rule
           → {a : Sized} → SizesE frame (at + 1 + 1) items shape ends inner a
           → {r : Sized} → r ≡ sized (a .next) (rule .grouped && a .allowed) (aggregatedR (aggregateAt n) (rule .bound) (a .range)) → SizesE frame at items shape ends rule r
-      unfolding columnsOf
+      unfolding permittedOf
       on-aggregate k {n} e {inner} i {a} d′ s =
           let d : SizesE frame (at + 1 + 1) items shape ends (insideOf rule) a = rw i at d′ in
           rw s (onE (atE 0x07 k) (omega (arith, d .further)) (λ y rest q.
@@ -176,7 +175,7 @@ module _ (frame items shape : List ℕ) (ends : List ℤ) (rule : Rule) where
           let t = kind-at frame (at + 1) here h in
           let f = d .sizes b w (ap (readE W) (t .1) ∙ u) in
           settle (FactsE (sized (a .next) (rule .grouped && a .allowed) (aggregatedR (aggregateAt n) (rule .bound) (a .range)))) z
-          (f .0, ap (λ c. rule .grouped && c) (f .1), ap₂ (λ c g. aggregatedR (aggregateAt c) (rule .bound) g) (e ∙ t .0) (f .2) ∙ ranged-aggregate I (rule .bound) (aggregateAt o) b)))
+          (f .0, ap₂ _&&_ (sym (aggregates-are frame rule)) (f .1), ap₂ (λ c g. aggregatedR (aggregateAt c) (rule .bound) g) (e ∙ t .0) (f .2) ∙ ranged-aggregate I (aggregateAt o) b)))
 
       -- a token past the last
       other : (t k : ℕ) → 0x08 ≤ t → k < 0x08 → eqb t k ≡ false
@@ -214,7 +213,7 @@ module _ (frame items shape : List ℕ) (ends : List ℤ) (rule : Rule) where
           let (b, n, h, z) = then-ok (readE W l) _ j in
           let f = m .sizes a b l n g h in
           settle (FactsC (tested (p .next) (p .allowed) (u && w))) z
-          (f .0, f .1, ap₂ _&&_ (x ∙ ap isWithin (f .2) ∙ ranged-is I (rule .bound) a) (y ∙ ap isWithin (f .3) ∙ ranged-is I (rule .bound) b))))
+          (f .0, f .1, ap₂ _&&_ (x ∙ ap isWithin (f .2) ∙ ranged-is I a) (y ∙ ap isWithin (f .3) ∙ ranged-is I b))))
 
       pub on-negated : getD frame at 0 ≡ 0x14 → {r : Tested} → TestsC frame (at + 1) items shape ends rule r → TestsC frame at items shape ends rule r
       on-negated k {r} d = onC (atC 0x14 k) (omega (arith, d .further)) (λ c rest q.

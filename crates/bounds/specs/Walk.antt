@@ -12,8 +12,8 @@ use Rattle.range.specs.declared.Range.{Range}
 use Rattle.range.specs.declared.Ranged.{Ranged}
 use Rattle.range.specs.declared.Ranged.the-variants.{Within, Beyond}
 use Rattle.meaning.specs.Syntax.{Expr, Cond, Place}
-use Rattle.language.specs.Reading.{Read, readE, readC}
-use Rattle.meaning.specs.Bounds.{range, withinE, withinC, allowedE, allowedC, anyColumn, groupingColumn}
+use Rattle.language.specs.Reading.{Read, Open, openItems, readE, readC}
+use Rattle.meaning.specs.Bounds.{OpenRanges, range, withinE, withinC, Permitted, inBasic, inGrouped, allowedE, allowedC}
 use Rattle.catalog.specs.Arrays.{widthAt, itemsIn}
 use Rattle.bounds.specs.declared.Rule.{Rule}
 use Rattle.bounds.specs.declared.Sized.{Sized}
@@ -27,9 +27,9 @@ unfoldable pub placesFrom : List ℕ → ℕ → ℕ → List Place
 placesFrom frame at zero = []
 placesFrom frame at (suc n) = record { item = getD frame at 0; column = getD frame (at + 1) 0 } ∷ placesFrom frame (at + 2) n
 
--- which columns may stand outside 07
-unfoldable pub columnsOf : List ℕ → Rule → ℕ → ℕ → Bool
-columnsOf frame rule = cond (rule .grouped) (groupingColumn (placesFrom frame (rule .places) (rule .count))) anyColumn
+-- what may stand where the rule is
+unfoldable pub permittedOf : List ℕ → Rule → Permitted
+permittedOf frame rule = cond (rule .grouped) (inGrouped (placesFrom frame (rule .places) (rule .count))) inBasic
 
 -- the rule inside 07: any column, and no other 07
 abbrev pub insideOf : Rule → Rule
@@ -41,13 +41,20 @@ insideOf rule = record { bound = rule .bound; grouped = false; places = rule .pl
 abbrev pub widthsIn : List ℕ → List ℕ → List ℕ
 widthsIn shape fs = map (widthAt shape) fs
 
+-- what is open over a from list
+abbrev pub openIn : List ℕ → List ℕ → Open
+openIn shape fs = openItems (widthsIn shape fs)
+
+abbrev pub openRangesIn : List ℕ → List ℤ → List ℕ → ℕ → OpenRanges
+openRangesIn shape ends fs R = record { ranges = itemsIn shape ends fs; bound = R }
+
 -- the range of a column of a from item, 0 to 0 where there is none
 unfoldable pub columnIn : List ℕ → List ℤ → List ℕ → ℕ → ℕ → Range
 columnIn shape ends fs i c = getD (getD (itemsIn shape ends fs) i []) c (constantOf (pos 0))
 
 -- the range of an expression if 32 bits hold it and every range inside it
-unfoldable pub rangedE : List (List Range) → ℕ → Expr → Ranged
-rangedE items R e = cond (withinE items R e) (Within (range items R e)) Beyond
+unfoldable pub rangedE : OpenRanges → Expr → Ranged
+rangedE o e = cond (withinE o e) (Within (range o e)) Beyond
 
 -- the same made of the parts' answers
 unfoldable pub operatedR : Operation → Ranged → Ranged → Ranged
@@ -89,30 +96,30 @@ abbrev pub columnAt : List ℕ → ℕ → List ℕ → List ℕ → List ℤ �
 columnAt frame at items shape ends rule =
     let i = getD frame at 0 in
     let c = getD frame (at + 1) 0 in
-    sized (at + 2) (columnsOf frame rule i c) (ranged (columnIn shape ends items i c))
+    sized (at + 2) (permittedOf frame rule .columns i c) (ranged (columnIn shape ends items i c))
 
 -- ---- the walks: of the tree that is read at a position
 
 pub record SizesE (frame : List ℕ) (at : ℕ) (items shape : List ℕ) (ends : List ℤ) (rule : Rule) (r : Sized) : Type 0 where
   pub further : at ≤ r .next
-  pub sizes : (e : Expr) (rest : List ℕ) → readE (widthsIn shape items) (drop at frame) ≡ Read.ok e rest
+  pub sizes : (e : Expr) (rest : List ℕ) → readE (openIn shape items) (drop at frame) ≡ Read.ok e rest
       → (drop (r .next) frame ≡ rest)
-      × (r .allowed ≡ allowedE (columnsOf frame rule) (rule .grouped) e)
-      × (r .range ≡ rangedE (itemsIn shape ends items) (rule .bound) e)
+      × (r .allowed ≡ allowedE (permittedOf frame rule) e)
+      × (r .range ≡ rangedE (openRangesIn shape ends items (rule .bound)) e)
 
 -- two expressions, one after the other
 pub record SizesTwo (frame : List ℕ) (at : ℕ) (items shape : List ℕ) (ends : List ℤ) (rule : Rule) (r : TwoSized) : Type 0 where
   pub further : at ≤ r .next
-  pub sizes : (a b : Expr) (mid rest : List ℕ) → readE (widthsIn shape items) (drop at frame) ≡ Read.ok a mid
-      → readE (widthsIn shape items) mid ≡ Read.ok b rest
+  pub sizes : (a b : Expr) (mid rest : List ℕ) → readE (openIn shape items) (drop at frame) ≡ Read.ok a mid
+      → readE (openIn shape items) mid ≡ Read.ok b rest
       → (drop (r .next) frame ≡ rest)
-      × (r .allowed ≡ (allowedE (columnsOf frame rule) (rule .grouped) a && allowedE (columnsOf frame rule) (rule .grouped) b))
-      × (r .first ≡ rangedE (itemsIn shape ends items) (rule .bound) a)
-      × (r .second ≡ rangedE (itemsIn shape ends items) (rule .bound) b)
+      × (r .allowed ≡ (allowedE (permittedOf frame rule) a && allowedE (permittedOf frame rule) b))
+      × (r .first ≡ rangedE (openRangesIn shape ends items (rule .bound)) a)
+      × (r .second ≡ rangedE (openRangesIn shape ends items (rule .bound)) b)
 
 pub record TestsC (frame : List ℕ) (at : ℕ) (items shape : List ℕ) (ends : List ℤ) (rule : Rule) (r : Tested) : Type 0 where
   pub further : at ≤ r .next
-  pub tests : (c : Cond) (rest : List ℕ) → readC (widthsIn shape items) (drop at frame) ≡ Read.ok c rest
+  pub tests : (c : Cond) (rest : List ℕ) → readC (openIn shape items) (drop at frame) ≡ Read.ok c rest
       → (drop (r .next) frame ≡ rest)
-      × (r .allowed ≡ allowedC (columnsOf frame rule) (rule .grouped) c)
-      × (r .within ≡ withinC (itemsIn shape ends items) (rule .bound) c)
+      × (r .allowed ≡ allowedC (permittedOf frame rule) c)
+      × (r .within ≡ withinC (openRangesIn shape ends items (rule .bound)) c)

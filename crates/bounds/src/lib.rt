@@ -12,7 +12,7 @@ ghost use Rattle.value.specs.Integer.{bytesZ};
 ghost use Rattle.value.specs.Value.{operationAt, aggregateAt};
 ghost use Rattle.range.specs.Ranges.{ranged, constantOf};
 ghost use Rattle.meaning.specs.Bounds.{groupingColumn};
-ghost use Rattle.bounds.specs.Walk.{placesFrom, columnsOf, insideOf, columnIn, columnAt, operatedR, roundedR, hullR, chosenR, aggregatedR, isWithin, sized, tested, SizesE, SizesTwo, TestsC};
+ghost use Rattle.bounds.specs.Walk.{placesFrom, permittedOf, insideOf, columnIn, columnAt, operatedR, roundedR, hullR, chosenR, aggregatedR, isWithin, sized, tested, SizesE, SizesTwo, TestsC};
 
 // Where an expression stands: the row bound, and whether it is in having or select of an aggregate view, whose grouping columns
 // are `count` pairs of bytes (from item, column) at `places` of the frame.
@@ -115,7 +115,7 @@ fn grouping(frame: &[u8], places: usize, count: u8, item: u8, column: u8) -> boo
 
 // Whether a column may stand outside 07.
 fn permitted(frame: &[u8], rule: Rule, item: u8, column: u8) -> bool
-    ensures { λ r. ⌜ r ≡ columnsOf (now (frame .entry)) rule item column ⌝ }
+    ensures { λ r. ⌜ r ≡ permittedOf (now (frame .entry)) rule .columns item column ⌝ }
 {
     if rule.grouped {
         // past the end every byte is 0, wherever that is

@@ -10,7 +10,7 @@ use lib.ListN.{length, getD, List·getD-append}
 use borrow.Author.Tests.{ltb-true, ltb-false}
 use Rattle.value.proofs.Decides.{by-test}
 use Rattle.meaning.specs.Syntax.{SetOperation}
-use Rattle.language.specs.Reading.{Read, Reader, _>>=_, either, byteIf, readE, readC}
+use Rattle.language.specs.Reading.{Read, Reader, _>>=_, either, byteIf, openItems, readE, readC}
 use Rattle.language.proofs.Readers.{then-ok}
 use Rattle.meaning.proofs.Stacks.{length-snoc}
 use Rattle.language.specs.Draft.{Draft, Item, empty, added, isTable, isView, width, inOrder, hasRoom}
@@ -73,13 +73,13 @@ module _ (d : Draft) where
 
   basic-fits : Yields ItemFits (basicFrame d)
   basic-fits = yields-after (fromList d) (λ fs. yields-after (field 1 8) (λ n.
-      yields-after (readC (map (width d) fs)) (λ w. yields-after (repeated n (readE (map (width d) fs))) (λ es. yields-ending _ tt))))
+      yields-after (readC (openItems (map (width d) fs))) (λ w. yields-after (repeated n (readE (openItems (map (width d) fs)))) (λ es. yields-ending _ tt))))
 
   grouped-fits : Yields ItemFits (groupedFrame d)
   grouped-fits = yields-after (fromList d) (λ fs. yields-after (field 0 4) (λ g. yields-after (field 1 8) (λ n.
       let cols = map (width d) fs in
-      yields-after (readC cols) (λ w. yields-after (repeated g (placeField cols)) (λ gs.
-      yields-after (readC cols) (λ h. yields-after (repeated n (readE cols)) (λ es. yields-ending _ tt)))))))
+      yields-after (readC (openItems cols)) (λ w. yields-after (repeated g (placeField cols)) (λ gs.
+      yields-after (readC (openItems cols)) (λ h. yields-after (repeated n (readE (openItems cols))) (λ es. yields-ending _ tt)))))))
 
   set-fits : (op : SetOperation) → Yields ItemFits (setFrame d op)
   set-fits op = yields-after (byteIf 6 (isView d)) (λ i. yields-after (byteIf 6 (isView d)) (λ j. yields-ending _ tt))

@@ -15,7 +15,7 @@ use lib.ListN.{length, getD, drop, take}
 use borrow.Author.Tests.{leb-true, leb-false}
 use Rattle.value.proofs.Decides.{by-test, and-parts}
 use Rattle.meaning.specs.Syntax.{Expr}
-use Rattle.language.specs.Reading.{Read, Reader, done, andThen, _>>=_, byteIf, place, readE, readC}
+use Rattle.language.specs.Reading.{Read, Reader, done, andThen, _>>=_, byteIf, place, openItems, readE, readC}
 use Rattle.meaning.proofs.Elements.{all-given, map-same}
 use Rattle.prefix.specs.Skipped.{skipOf, skipped}
 use Rattle.prefix.specs.declared.Skip.{Skip}
@@ -250,18 +250,18 @@ place-field cols =
 -- ---- a condition, grouping columns, expressions, the end
 
 module _ (frame cols : List ℕ) (at : ℕ) where
-  module _ (m : ℕ) {n : ℕ} {r : Skip} (p : r ≡ skipped frame at (repeated m (readE cols))) where
+  module _ (m : ℕ) {n : ℕ} {r : Skip} (p : r ≡ skipped frame at (repeated m (readE (openItems cols)))) where
     pub select-next : {v : ℕ} → at ≤ length frame → r ≡ Next n → v ≡ faultAt frame n (ending n) → v ≡ faultAt frame at (selectEnd cols m)
     unfolding selectEnd
-    select-next h q e = e ∙ sym (fault-next frame (repeat-lands frame (fieldE cols) at m h p q) (λ es. ending es) (λ es. end-any frame n es n))
+    select-next h q e = e ∙ sym (fault-next frame (repeat-lands frame (fieldE (openItems cols)) at m h p q) (λ es. ending es) (λ es. end-any frame n es n))
 
     pub select-stop : r ≡ Refused n → n ≡ faultAt frame at (selectEnd cols m)
     unfolding selectEnd
-    select-stop q = sym (fault-stop frame (repeated m (readE cols)) (λ es. ending es) at n p q)
+    select-stop q = sym (fault-stop frame (repeated m (readE (openItems cols))) (λ es. ending es) at n p q)
 
-  module _ {n : ℕ} {r : Skip} (p : r ≡ skipped frame at (readC cols)) where
-    landed : r ≡ Next n → Landed frame (readC cols) at n
-    landed q = field-lands frame (fieldC cols) at n (sym p ∙ q)
+  module _ {n : ℕ} {r : Skip} (p : r ≡ skipped frame at (readC (openItems cols))) where
+    landed : r ≡ Next n → Landed frame (readC (openItems cols)) at n
+    landed q = field-lands frame (fieldC (openItems cols)) at n (sym p ∙ q)
 
     pub condition-inside : r ≡ Next n → n ≤ length frame
     condition-inside q = landed q .inside
@@ -273,12 +273,12 @@ module _ (frame cols : List ℕ) (at : ℕ) where
 
       pub condition-stop : r ≡ Refused n → n ≡ faultAt frame at (conditionSelect cols m)
       unfolding conditionSelect
-      condition-stop q = sym (fault-stop frame (readC cols) (λ w. selectEnd cols m) at n p q)
+      condition-stop q = sym (fault-stop frame (readC (openItems cols)) (λ w. selectEnd cols m) at n p q)
 
       module _ (g : ℕ) where
         pub where-stop : r ≡ Refused n → n ≡ faultAt frame at (whereGroups cols g m)
         unfolding whereGroups
-        where-stop q = sym (fault-stop frame (readC cols) (λ w. repeated g (placeField cols) >>= λ gs. conditionSelect cols m) at n p q)
+        where-stop q = sym (fault-stop frame (readC (openItems cols)) (λ w. repeated g (placeField cols) >>= λ gs. conditionSelect cols m) at n p q)
 
         module _ {s : Skip} (q : r ≡ Next n) (t : s ≡ skipped frame n (repeated g (placeField cols))) where
           at-places : faultAt frame at (whereGroups cols g m) ≡ faultAt frame n (repeated g (placeField cols) >>= λ gs. conditionSelect cols m)

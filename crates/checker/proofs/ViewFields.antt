@@ -14,7 +14,7 @@ use Rattle.value.proofs.Places.{from-byte}
 use Rattle.value.proofs.Values.{all-map}
 use Rattle.meaning.specs.Lists.{all}
 use Rattle.meaning.specs.Syntax.{Expr, Cond, Place, View}
-use Rattle.language.specs.Reading.{Read, Reader, done, andThen, _>>=_, byteIf, readE, readC}
+use Rattle.language.specs.Reading.{Read, Reader, done, andThen, _>>=_, byteIf, openItems, readE, readC}
 use Rattle.language.proofs.Readers.{then-ok}
 use Rattle.catalog.specs.Frames.{fromsIn, partsAfter}
 use Rattle.catalog.specs.declared.frames.Parts.{Parts}
@@ -148,7 +148,7 @@ view-read p q (b ∷ bs) rest e = let z : _≡_ {A = ℕ} 0 1 = cc in absurd (om
 abbrev pub groupedTrees : Draft → List ℕ → ℕ → ℕ → Reader Item
 groupedTrees d fs g n =
     let cols = map (width d) fs in
-    readC cols >>= λ w. repeated g (placeField cols) >>= λ gs. readC cols >>= λ h. repeated n (readE cols) >>= λ es.
+    readC (openItems cols) >>= λ w. repeated g (placeField cols) >>= λ gs. readC (openItems cols) >>= λ h. repeated n (readE (openItems cols)) >>= λ es.
     ending (Item.view (View.grouped fs w gs h es))
 
 pub record GroupedTrees (d : Draft) (fs : List ℕ) (g n : ℕ) (bs : List ℕ) (q : View) : Type 0 where
@@ -160,19 +160,19 @@ pub record GroupedTrees (d : Draft) (fs : List ℕ) (g n : ℕ) (bs : List ℕ) 
   pub mid′ : List ℕ
   pub mid″ : List ℕ
   pub rest : List ℕ
-  pub readW : readC (map (width d) fs) bs ≡ Read.ok w mid
+  pub readW : readC (openItems (map (width d) fs)) bs ≡ Read.ok w mid
   pub readG : repeated g (placeField (map (width d) fs)) mid ≡ Read.ok gs mid′
-  pub readH : readC (map (width d) fs) mid′ ≡ Read.ok h mid″
-  pub readS : repeated n (readE (map (width d) fs)) mid″ ≡ Read.ok es rest
+  pub readH : readC (openItems (map (width d) fs)) mid′ ≡ Read.ok h mid″
+  pub readS : repeated n (readE (openItems (map (width d) fs))) mid″ ≡ Read.ok es rest
   pub same : View.grouped fs w gs h es ≡ q
 
 pub trees-read : (d : Draft) (fs : List ℕ) (g n : ℕ) (bs : List ℕ) (q : View) → groupedTrees d fs g n bs ≡ Read.ok (Item.view q) [] → GroupedTrees d fs g n bs q
 trees-read d fs g n bs q e =
     let cols = map (width d) fs in
-    let (w, m₁, p₁, q₁) = then-ok (readC cols bs) _ e in
+    let (w, m₁, p₁, q₁) = then-ok (readC (openItems cols) bs) _ e in
     let (gs, m₂, p₂, q₂) = then-ok (repeated g (placeField cols) m₁) _ q₁ in
-    let (h, m₃, p₃, q₃) = then-ok (readC cols m₂) _ q₂ in
-    let (es, m₄, p₄, q₄) = then-ok (repeated n (readE cols) m₃) _ q₃ in
+    let (h, m₃, p₃, q₃) = then-ok (readC (openItems cols) m₂) _ q₂ in
+    let (es, m₄, p₄, q₄) = then-ok (repeated n (readE (openItems cols)) m₃) _ q₃ in
     record {
       w = w;
       gs = gs;

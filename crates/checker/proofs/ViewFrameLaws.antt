@@ -9,7 +9,7 @@ use native.Mathlib.Omega.{arith}
 use lib.IntN.{ℤ}
 use lib.ListN.{length, getD, take, length-take}
 use Rattle.meaning.specs.Syntax.{View}
-use Rattle.language.specs.Reading.{Reader, _>>=_, byteIf, readE, readC}
+use Rattle.language.specs.Reading.{Reader, _>>=_, byteIf, openItems, readE, readC}
 use Rattle.catalog.specs.Arrays.{widthAt}
 use Rattle.language.specs.Draft.{Draft, Item, relationCount, width}
 use Rattle.language.specs.Frames.{repeated, field, ending, placeField, basicFrame, groupedFrame}
@@ -22,21 +22,21 @@ use Rattle.checker.proofs.ViewByteLaws.{Alike, alike-at, alike-bind, al
 
 -- what stands behind the counts, as the definitions read it
 abbrev basicBehind : List ℕ → List ℕ → ℕ → Reader Item
-basicBehind fs cols n = readC cols >>= λ w. repeated n (readE cols) >>= λ es. ending (Item.view (View.basic fs w es))
+basicBehind fs cols n = readC (openItems cols) >>= λ w. repeated n (readE (openItems cols)) >>= λ es. ending (Item.view (View.basic fs w es))
 
 abbrev groupedBehind : List ℕ → List ℕ → ℕ → ℕ → Reader Item
 groupedBehind fs cols g n =
-    readC cols >>= λ w. repeated g (placeField cols) >>= λ gs. readC cols >>= λ h. repeated n (readE cols) >>= λ es. ending (Item.view (View.grouped fs w gs h es))
+    readC (openItems cols) >>= λ w. repeated g (placeField cols) >>= λ gs. readC (openItems cols) >>= λ h. repeated n (readE (openItems cols)) >>= λ es. ending (Item.view (View.grouped fs w gs h es))
 
 basic-alike : (fs cols : List ℕ) (n : ℕ) → Alike (basicBehind fs cols n) (conditionSelect cols n)
 unfolding conditionSelect selectEnd
-basic-alike fs cols n = alike-bind (readC cols) (λ w. alike-bind (repeated n (readE cols)) (λ es. alike-end (Item.view (View.basic fs w es)) es))
+basic-alike fs cols n = alike-bind (readC (openItems cols)) (λ w. alike-bind (repeated n (readE (openItems cols))) (λ es. alike-end (Item.view (View.basic fs w es)) es))
 
 grouped-alike : (fs cols : List ℕ) (g n : ℕ) → Alike (groupedBehind fs cols g n) (whereGroups cols g n)
 unfolding whereGroups conditionSelect selectEnd
 grouped-alike fs cols g n =
-    alike-bind (readC cols) (λ w. alike-bind (repeated g (placeField cols)) (λ gs.
-    alike-bind (readC cols) (λ h. alike-bind (repeated n (readE cols)) (λ es. alike-end (Item.view (View.grouped fs w gs h es)) es))))
+    alike-bind (readC (openItems cols)) (λ w. alike-bind (repeated g (placeField cols)) (λ gs.
+    alike-bind (readC (openItems cols)) (λ h. alike-bind (repeated n (readE (openItems cols))) (λ es. alike-end (Item.view (View.grouped fs w gs h es)) es))))
 
 -- ---- the whole frame: `cols` are the widths of the from items where there are at most three
 

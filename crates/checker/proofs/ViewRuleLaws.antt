@@ -14,19 +14,18 @@ use borrow.Author.Tests.{leb-true}
 use Rattle.value.specs.Bag.{All}
 use Rattle.value.proofs.Decides.{by-test, and-parts}
 use Rattle.value.proofs.Values.{all-map}
-use Rattle.range.specs.declared.Range.{Range}
 use Rattle.range.specs.declared.Ranged.{Ranged}
 use Rattle.range.specs.declared.Ranged.the-variants.{Within, Beyond}
 use Rattle.meaning.specs.Lists.{all}
 use Rattle.meaning.specs.Syntax.{Expr, Cond, Place, View}
-use Rattle.language.specs.Reading.{Read, readE, readC}
-use Rattle.meaning.specs.Bounds.{Schema, schema, viewSchema, itemRanges, productBound, range, withinE, withinC, allowedE, allowedC, anyColumn, groupingColumn}
+use Rattle.language.specs.Reading.{Read, openItems, readE, readC}
+use Rattle.meaning.specs.Bounds.{Schema, schema, viewSchema, itemRanges, productBound, OpenRanges, openRanges, range, withinE, withinC, allowedE, allowedC, inWhere, inBasic, inGrouped}
 use Rattle.meaning.proofs.Elements.{all-given, map-same}
 use Rattle.language.proofs.Readers.{then-ok}
 use Rattle.catalog.specs.Arrays.{widthAt, boundAt, rangesFrom, rangesIn, itemsIn, putRange, putShape, Outside}
 use Rattle.catalog.specs.Frames.{fromsIn, partsAfter}
 use Rattle.catalog.specs.declared.frames.Parts.{Parts}
-use Rattle.bounds.specs.Walk.{placesFrom, columnsOf, widthsIn, rangedE, isWithin, SizesE, TestsC}
+use Rattle.bounds.specs.Walk.{placesFrom, permittedOf, widthsIn, openIn, openRangesIn, rangedE, isWithin, SizesE, TestsC}
 use Rattle.bounds.specs.declared.Rule.{Rule}
 use Rattle.bounds.specs.declared.Sized.{Sized}
 use Rattle.bounds.specs.declared.Tested.{Tested}
@@ -46,21 +45,21 @@ use Rattle.checker.proofs.ViewFields.{partsOf, all-snoc, drop-as, times
 
 record BasicOf (frame : List ℕ) (P : Parts) (items shape : List ℕ) (ends : List ℤ) (r : ℕ) (ends′ : List ℤ) (a : Ruled) : Type 0 where
   ruled : EntryRoom shape ends items r → length items ≤ 3 → P .width ≤ 8 → (w : Cond) (es : List Expr) (mid rest : List ℕ)
-      → readC (widthsIn shape items) (drop (P .body) frame) ≡ Read.ok w mid
-      → repeated (P .width) (readE (widthsIn shape items)) mid ≡ Read.ok es rest
-      → let I = itemsIn shape ends items in let R = productOf shape items in
-      RuledAs (allowedC anyColumn false w && all (allowedE anyColumn false) es) (withinC I R w && all (withinE I R) es) es I R r ends ends′ a
+      → readC (openIn shape items) (drop (P .body) frame) ≡ Read.ok w mid
+      → repeated (P .width) (readE (openIn shape items)) mid ≡ Read.ok es rest
+      → let I = openRangesIn shape ends items (productOf shape items) in
+      RuledAs (allowedC inWhere w && all (allowedE inBasic) es) (withinC I w && all (withinE I) es) es I r ends ends′ a
 
 record GroupedOf (frame : List ℕ) (P : Parts) (items shape : List ℕ) (ends : List ℤ) (r : ℕ) (ends′ : List ℤ) (a : Ruled) : Type 0 where
   ruled : EntryRoom shape ends items r → length items ≤ 3 → P .width ≤ 8 → (w : Cond) (gs : List Place) (h : Cond) (es : List Expr)
       (mid mid′ mid″ rest : List ℕ)
-      → readC (widthsIn shape items) (drop (P .body) frame) ≡ Read.ok w mid
+      → readC (openIn shape items) (drop (P .body) frame) ≡ Read.ok w mid
       → repeated (P .groups) (placeField (widthsIn shape items)) mid ≡ Read.ok gs mid′
-      → readC (widthsIn shape items) mid′ ≡ Read.ok h mid″
-      → repeated (P .width) (readE (widthsIn shape items)) mid″ ≡ Read.ok es rest
-      → let I = itemsIn shape ends items in let R = productOf shape items in
-      RuledAs (allowedC anyColumn false w && (allowedC (groupingColumn gs) true h && all (allowedE (groupingColumn gs) true) es))
-      (withinC I R w && (withinC I R h && all (withinE I R) es)) es I R r ends ends′ a
+      → readC (openIn shape items) mid′ ≡ Read.ok h mid″
+      → repeated (P .width) (readE (openIn shape items)) mid″ ≡ Read.ok es rest
+      → let I = openRangesIn shape ends items (productOf shape items) in
+      RuledAs (allowedC inWhere w && (allowedC (inGrouped gs) h && all (allowedE (inGrouped gs)) es))
+      (withinC I w && (withinC I h && all (withinE I) es)) es I r ends ends′ a
 
 -- ---- the row bound
 
@@ -96,16 +95,16 @@ unfolding putRanged
 ranged-length ends r c (Within x) = put-length ends r c x
 ranged-length ends r c Beyond = refl
 
-ranged-put : (ends : List ℤ) (r c : ℕ) (I : List (List Range)) (R : ℕ) (e : Expr) → withinE I R e ≡ true
-    → putRanged ends r c (rangedE I R e) ≡ putRange ends r c (range I R e)
+ranged-put : (ends : List ℤ) (r c : ℕ) (I : OpenRanges) (e : Expr) → withinE I e ≡ true
+    → putRanged ends r c (rangedE I e) ≡ putRange ends r c (range I e)
 unfolding putRanged rangedE
-ranged-put ends r c I R e h = rw h
+ranged-put ends r c I e h = rw h
 
 module _ (frame : List ℕ) (start : ℕ) (items shape : List ℕ) (ends : List ℤ) (r : ℕ) (rule : Rule) where
   -- c expressions have been walked, and the next begins at `at`
   pub record SelectsTo (c : ℕ) (now : List ℤ) (at : ℕ) (allowed within : Bool) : Type 0 where
     pub so-far : Selects frame start c items shape ends r rule now allowed within
-    pub next : (es : List Expr) (rest : List ℕ) → repeated c (readE (widthsIn shape items)) (drop start frame) ≡ Read.ok es rest → drop at frame ≡ rest
+    pub next : (es : List Expr) (rest : List ℕ) → repeated c (readE (openIn shape items)) (drop start frame) ≡ Read.ok es rest → drop at frame ≡ rest
 
   pub selects-none : SelectsTo 0 ends start true true
   unfolding rangesFrom
@@ -114,9 +113,9 @@ module _ (frame : List ℕ) (start : ℕ) (items shape : List ℕ) (ends : List 
       outside = λ _. outside-same r ends;
       selects = λ room l es rest h.
           let e : [] ≡ es = cc in (
-            ap (all (allowedE (columnsOf frame rule) (rule .grouped))) e,
-            ap (all (withinE (itemsIn shape ends items) (rule .bound))) e,
-            λ _. ap (map (range (itemsIn shape ends items) (rule .bound))) e,
+            ap (all (allowedE (permittedOf frame rule))) e,
+            ap (all (withinE (openRangesIn shape ends items (rule .bound)))) e,
+            λ _. ap (map (range (openRangesIn shape ends items (rule .bound)))) e,
           );
     };
     next = λ es rest h. cc;
@@ -129,29 +128,28 @@ module _ (frame : List ℕ) (start : ℕ) (items shape : List ℕ) (ends : List 
     so-far = record {
       outside = λ l. outside-more (s .so-far .outside (omega arith)) (rw q (ranged-outside now r c (z .range) (omega arith)));
       selects = λ room l es rest h.
-          let reader = readE (widthsIn shape items) in
-          let I = itemsIn shape ends items in
-          let R = rule .bound in
+          let reader = readE (openIn shape items) in
+          let I = openRangesIn shape ends items (rule .bound) in
           let (es₀, x, mid, u, v, w) = times-snoc reader c (drop start frame) es rest (rw (add-one c) at h) in
           let (a, b, ranges) = s .so-far .selects room (omega arith) es₀ mid u in
           let o : Outside r ends now = s .so-far .outside (omega arith) in
-          let same : itemsIn shape now items ≡ I = items-same shape o (room .widths) items (room .earlier) in
+          let same : itemsIn shape now items ≡ itemsIn shape ends items = items-same shape o (room .widths) items (room .earlier) in
           let (_, al, rg) = y .sizes x rest (ap reader (s .next es₀ mid u) ∙ v) in
-          let rg′ : z .range ≡ rangedE I R x = rg ∙ ap (λ i. rangedE i R x) same in
-          let fit : fits ≡ withinE I R x = f ∙ ap isWithin rg′ ∙ ranged-is I R x in
-          let P = allowedE (columnsOf frame rule) (rule .grouped) in (
+          let rg′ : z .range ≡ rangedE I x = rg ∙ ap (λ i. rangedE (record { ranges = i; bound = rule .bound }) x) same in
+          let fit : fits ≡ withinE I x = f ∙ ap isWithin rg′ ∙ ranged-is I x in
+          let P = allowedE (permittedOf frame rule) in (
             ap₂ _&&_ a al ∙ sym (all-snoc P es₀ x) ∙ ap (all P) (sym w),
-            ap₂ _&&_ b fit ∙ sym (all-snoc (withinE I R) es₀ x) ∙ ap (all (withinE I R)) (sym w),
+            ap₂ _&&_ b fit ∙ sym (all-snoc (withinE I) es₀ x) ∙ ap (all (withinE I)) (sym w),
             λ t.
                 let (t₀, t₁) = and-parts within fits t in
-                let put : now′ ≡ putRange now r c (range I R x) = q ∙ ap (putRanged now r c) rg′ ∙ ranged-put now r c I R x (sym fit ∙ t₁) in
+                let put : now′ ≡ putRange now r c (range I x) = q ∙ ap (putRanged now r c) rg′ ∙ ranged-put now r c I x (sym fit ∙ t₁) in
                 let long : 16 * r + 2 * c + 1 < length now = omega (arith, room .place, room .size, o .size) in
-                ap (λ m. rangesFrom m (16 * r) (c + 1)) put ∙ put-next now r c (range I R x) long
-                ∙ ap (λ rs. rs ++ (range I R x ∷ [])) (ranges t₀) ∙ sym (map-append (range I R) es₀ (x ∷ [])) ∙ ap (map (range I R)) (sym w),
+                ap (λ m. rangesFrom m (16 * r) (c + 1)) put ∙ put-next now r c (range I x) long
+                ∙ ap (λ rs. rs ++ (range I x ∷ [])) (ranges t₀) ∙ sym (map-append (range I) es₀ (x ∷ [])) ∙ ap (map (range I)) (sym w),
           );
     };
     next = λ es rest h.
-        let reader = readE (widthsIn shape items) in
+        let reader = readE (openIn shape items) in
         let (es₀, x, mid, u, v, w) = times-snoc reader c (drop start frame) es rest (rw (add-one c) at h) in
         y .sizes x rest (ap reader (s .next es₀ mid u) ∙ v) .0;
   }
@@ -180,9 +178,9 @@ tail-ruled frame head count items shape ends r rule ends′ a allowed within s f
       };
 }
 
-ruled-as : {A A′ W W′ : Bool} {es : List Expr} {I : List (List Range)} {R r : ℕ} {ends ends′ : List ℤ} {a : Ruled} → A ≡ A′ → W ≡ W′
-    → RuledAs A W es I R r ends ends′ a → RuledAs A′ W′ es I R r ends ends′ a
-ruled-as {es = es} {I = I} {R = R} {r = r} {ends = ends} {ends′ = ends′} {a = a} p q x = rw (← p, ← q) x
+ruled-as : {A A′ W W′ : Bool} {es : List Expr} {I : OpenRanges} {r : ℕ} {ends ends′ : List ℤ} {a : Ruled} → A ≡ A′ → W ≡ W′
+    → RuledAs A W es I r ends ends′ a → RuledAs A′ W′ es I r ends ends′ a
+ruled-as {es = es} {I = I} {r = r} {ends = ends} {ends′ = ends′} {a = a} p q x = rw (← p, ← q) x
 
 abbrev pub plainRule : ℕ → Rule
 plainRule bound = record { bound = bound; grouped = false; places = 0; count = 0 }
@@ -192,48 +190,48 @@ groupedRule bound places g = record { bound = bound; grouped = true; places = pl
 
 module _ (frame : List ℕ) (P : Parts) (items shape : List ℕ) (ends : List ℤ) (r : ℕ) (ends′ : List ℤ) (a : Ruled) (bound : ℕ) (w′ : Tested)
     (product : Product shape items bound) (rule : Rule) (re : rule ≡ plainRule bound) (t : TestsC frame (P .body) items shape ends rule w′) where
-  I : List (List Range)
-  I = itemsIn shape ends items
+  abbrev I : ℕ → OpenRanges
+  I = openRangesIn shape ends items
 
   plain-tests : TestsC frame (P .body) items shape ends (plainRule bound) w′
   plain-tests = subst (λ k. TestsC frame (P .body) items shape ends k w′) re t
 
   basic-ruled : Tail frame w′ (P .width) items shape ends r rule ends′ a → BasicOf frame P items shape ends r ends′ a
-  unfolding I columnsOf
+  unfolding permittedOf
   basic-ruled s = record {
     ruled = λ room few narrow w es mid rest readW readS.
         let s′ = subst (λ k. Tail frame w′ (P .width) items shape ends r k ends′ a) re s in
         let (next, al, wi) = plain-tests .tests w mid readW in
-        let x = s′ .ruled room narrow es rest (ap (repeated (P .width) (readE (widthsIn shape items))) next ∙ readS) in
-        subst (λ R. RuledAs (allowedC anyColumn false w && all (allowedE anyColumn false) es) (withinC I R w && all (withinE I R) es) es I R r ends ends′ a)
+        let x = s′ .ruled room narrow es rest (ap (repeated (P .width) (readE (openIn shape items))) next ∙ readS) in
+        subst (λ R. RuledAs (allowedC inWhere w && all (allowedE inBasic) es) (withinC (I R) w && all (withinE (I R)) es) es (I R) r ends ends′ a)
         (product .product few)
-        (ruled-as (ap (λ b. b && all (allowedE anyColumn false) es) al) (ap (λ b. b && all (withinE I bound) es) wi) x);
+        (ruled-as (ap (λ b. b && all (allowedE inBasic) es) al) (ap (λ b. b && all (withinE (I bound)) es) wi) x);
   }
 
   grouped-ruled : (places : ℕ) (h′ head : Tested)
       → head ≡ record { next = h′ .next; allowed = w′ .allowed && h′ .allowed; within = w′ .within && h′ .within } → drop places frame ≡ drop (w′ .next) frame
       → TestsC frame (places + 2 * P .groups) items shape ends (groupedRule bound places (P .groups)) h′
       → Tail frame head (P .width) items shape ends r (groupedRule bound places (P .groups)) ends′ a → GroupedOf frame P items shape ends r ends′ a
-  unfolding I columnsOf
+  unfolding permittedOf
   grouped-ruled places h′ head he at u s = record {
     ruled = λ room few narrow w gs h es mid mid′ mid″ rest readW readG readH readS.
         let cols = widthsIn shape items in
         let s′ = subst (λ k. Tail frame k (P .width) items shape ends r (groupedRule bound places (P .groups)) ends′ a) he s in
         let (next, al, wi) = plain-tests .tests w mid readW in
         let (gp, gr) = places-read cols frame (P .groups) places gs mid′ (ap (repeated (P .groups) (placeField cols)) (at ∙ next) ∙ readG) in
-        let (next′, al′, wi′) = u .tests h mid″ (ap (readC cols) (sym gr) ∙ readH) in
-        let x = s′ .ruled room narrow es rest (ap (repeated (P .width) (readE cols)) next′ ∙ readS) in
-        let G = groupingColumn (placesFrom frame places (P .groups)) in
-        let fit : ((w′ .allowed && h′ .allowed) && all (allowedE G true) es)
-        ≡ (allowedC anyColumn false w && (allowedC (groupingColumn gs) true h && all (allowedE (groupingColumn gs) true) es)) =
-        and-assoc (w′ .allowed) (h′ .allowed) (all (allowedE G true) es)
-        ∙ ap₂ (λ b c. b && (c && all (allowedE G true) es)) al al′
-        ∙ ap (λ k. allowedC anyColumn false w && (allowedC (groupingColumn k) true h && all (allowedE (groupingColumn k) true) es)) (sym gp) in
-        let within : ((w′ .within && h′ .within) && all (withinE I bound) es) ≡ (withinC I bound w && (withinC I bound h && all (withinE I bound) es)) =
-        and-assoc (w′ .within) (h′ .within) (all (withinE I bound) es)
-        ∙ ap₂ (λ b c. b && (c && all (withinE I bound) es)) wi wi′ in
-        subst (λ R. RuledAs (allowedC anyColumn false w && (allowedC (groupingColumn gs) true h && all (allowedE (groupingColumn gs) true) es))
-        (withinC I R w && (withinC I R h && all (withinE I R) es)) es I R r ends ends′ a)
+        let (next′, al′, wi′) = u .tests h mid″ (ap (readC (openItems cols)) (sym gr) ∙ readH) in
+        let x = s′ .ruled room narrow es rest (ap (repeated (P .width) (readE (openItems cols))) next′ ∙ readS) in
+        let G = inGrouped (placesFrom frame places (P .groups)) in
+        let fit : ((w′ .allowed && h′ .allowed) && all (allowedE G) es)
+        ≡ (allowedC inWhere w && (allowedC (inGrouped gs) h && all (allowedE (inGrouped gs)) es)) =
+        and-assoc (w′ .allowed) (h′ .allowed) (all (allowedE G) es)
+        ∙ ap₂ (λ b c. b && (c && all (allowedE G) es)) al al′
+        ∙ ap (λ k. allowedC inWhere w && (allowedC (inGrouped k) h && all (allowedE (inGrouped k)) es)) (sym gp) in
+        let within : ((w′ .within && h′ .within) && all (withinE (I bound)) es) ≡ (withinC (I bound) w && (withinC (I bound) h && all (withinE (I bound)) es)) =
+        and-assoc (w′ .within) (h′ .within) (all (withinE (I bound)) es)
+        ∙ ap₂ (λ b c. b && (c && all (withinE (I bound)) es)) wi wi′ in
+        subst (λ R. RuledAs (allowedC inWhere w && (allowedC (inGrouped gs) h && all (allowedE (inGrouped gs)) es))
+        (withinC (I R) w && (withinC (I R) h && all (withinE (I R)) es)) es (I R) r ends ends′ a)
         (product .product few) (ruled-as fit within x);
   }
 
@@ -264,18 +262,21 @@ module _ (d : Draft) {shape : List ℕ} {ends : List ℤ} (c : Catalogued d shap
   product-is fs =
       ap (foldr _*_ 1) (map-same (λ i. schema (schemasOf d) i .bound) (boundAt shape) (all-given (bound-known c) fs))
 
+  open-are : (fs : List ℕ) → openRanges (schemasOf d) fs ≡ openRangesIn shape ends fs (productOf shape fs)
+  open-are fs = ap₂ (λ R I. record { ranges = I; bound = R }) (product-is fs) (ranges-are fs)
+
   module _ (r : ℕ) (e : r ≡ relationCount d) (l : r < 16) where
     room-for : (fs : List ℕ) → All (λ i. i < relationCount d) fs → EntryRoom shape ends fs r
     room-for fs h = record { place = l; size = c .ends-size; widths = c .widths; earlier = all-map (λ x k. omega arith) h }
 
-    ruling-of : (ends′ : List ℤ) (a : Ruled) (q : View) (A W : Bool) (es : List Expr) (I : List (List Range)) (R : ℕ)
-        → wholeFault d (Item.view q) ≡ viewFault A R W → viewSchema (schemasOf d) q ≡ record { bound = R; ranges = map (range I R) es }
-        → RuledAs A W es I R r ends ends′ a → Ruling d r shape ends′ a q
-    ruling-of ends′ a q A W es I R f v x = record {
+    ruling-of : (ends′ : List ℤ) (a : Ruled) (q : View) (A W : Bool) (es : List Expr) (I : OpenRanges)
+        → wholeFault d (Item.view q) ≡ viewFault A (I .bound) W → viewSchema (schemasOf d) q ≡ record { bound = I .bound; ranges = map (range I) es }
+        → RuledAs A W es I r ends ends′ a → Ruling d r shape ends′ a q
+    ruling-of ends′ a q A W es I f v x = record {
       fault = x .fault ∙ sym f;
       entered = λ z.
-          let (small, t) = no-fault A R W (sym f ∙ z) in
-          let b : R ≡ a .bound = omega (arith, x .bound) in
+          let (small, t) = no-fault A (I .bound) W (sym f ∙ z) in
+          let b : I .bound ≡ a .bound = omega (arith, x .bound) in
           view-entered d q r 2 (a .width) (a .bound) 0 shape ends (putShape shape r 2 (a .width) (a .bound) 0) ends′ c e l (x .narrow) refl (x .outside)
           (v ∙ ap₂ (λ k rs. record { bound = k; ranges = rs }) b (sym (x .ranges t)));
     }
@@ -290,21 +291,21 @@ module _ (d : Draft) {shape : List ℕ} {ends : List ℤ} (c : Catalogued d shap
           let n₀ = getD frame 1 0 in
           let (n, m₂, p₂, q₂) = then-ok (field 1 8 m₁) _ q₁ in
           let (i, j, t, _) = byte-read 5 (λ b. leb 1 b && leb b 8) frame (n₀ + 2) n m₂ (ap (field 1 8) (sym (F .behind)) ∙ p₂) in
-          let (w, m₃, p₃, q₃) = then-ok (readC (map (width d) fs) m₂) _ q₂ in
-          let (es, m₄, p₄, q₄) = then-ok (repeated n (readE (map (width d) fs)) m₃) _ q₃ in
+          let (w, m₃, p₃, q₃) = then-ok (readC (openItems (map (width d) fs)) m₂) _ q₂ in
+          let (es, m₄, p₄, q₄) = then-ok (repeated n (readE (openItems (map (width d) fs))) m₃) _ q₃ in
           let same : View.basic fs w es ≡ q = view-read (View.basic fs w es) q m₄ [] q₄ in
           let B′ = subst (λ k. BasicOf frame (partsOf false frame) k shape ends r ends′ a) (list ∙ sym (F .list))
           (subst (λ (p : Parts). BasicOf frame p items shape ends r ends′ a) pe B) in
           let start : m₂ ≡ drop (n₀ + 3) frame = j ∙ drop-as frame (n₀ + 2 + 1) (n₀ + 3) (omega arith) in
-          let readW : readC (widthsIn shape fs) (drop (n₀ + 3) frame) ≡ Read.ok w m₃ = ap₂ readC (sym (widths-are c fs)) (sym start) ∙ p₃ in
-          let readS : repeated (getD frame (n₀ + 2) 0) (readE (widthsIn shape fs)) m₃ ≡ Read.ok es m₄ =
-          ap₂ (λ k cols. repeated k (readE cols) m₃) (sym i) (sym (widths-are c fs)) ∙ p₄ in
+          let readW : readC (openIn shape fs) (drop (n₀ + 3) frame) ≡ Read.ok w m₃ = ap₂ (λ cols. readC (openItems cols)) (sym (widths-are c fs)) (sym start) ∙ p₃ in
+          let readS : repeated (getD frame (n₀ + 2) 0) (readE (openIn shape fs)) m₃ ≡ Read.ok es m₄ =
+          ap₂ (λ k cols. repeated k (readE (openItems cols)) m₃) (sym i) (sym (widths-are c fs)) ∙ p₄ in
           let few : getD frame (n₀ + 2) 0 ≤ 8 = rw (← i) (leb-true n 8 (and-parts (leb 1 n) (leb n 8) t .1)) in
-          let A = allowedC anyColumn false w && all (allowedE anyColumn false) es in
+          let A = allowedC inWhere w && all (allowedE inBasic) es in
           subst (Ruling d r shape ends′ a) same
-          (ruling-of ends′ a (View.basic fs w es) _ _ es (itemsIn shape ends fs) (productOf shape fs)
-          (ap₂ (λ R I. cond A (cond (leb R 64) (cond (withinC I R w && all (withinE I R) es) 0 9) 8) 7) (product-is fs) (ranges-are fs))
-          (ap₂ (λ R I. record { bound = R; ranges = map (range I R) es }) (product-is fs) (ranges-are fs))
+          (ruling-of ends′ a (View.basic fs w es) _ _ es (openRangesIn shape ends fs (productOf shape fs))
+          (ap (λ I. cond A (cond (leb (I .bound) 64) (cond (withinC I w && all (withinE I) es) 0 9) 8) 7) (open-are fs))
+          (ap (λ I. record { bound = I .bound; ranges = map (range I) es }) (open-are fs))
           (B′ .ruled (room-for fs (F .earlier)) (F .few) few w es m₃ m₄ readW readS))
 
       grouped-ruling : P ≡ partsOf true frame → GroupedOf frame P items shape ends r ends′ a → GroupedRead d frame q → Ruling d r shape ends′ a q
@@ -313,20 +314,19 @@ module _ (d : Draft) {shape : List ℕ} {ends : List ℤ} (c : Catalogued d shap
           let fs = G .fs in
           let T = G .trees in
           let p = partsOf true frame in
-          let A = allowedC anyColumn false (T .w) && (allowedC (groupingColumn (T .gs)) true (T .h) && all (allowedE (groupingColumn (T .gs)) true) (T .es)) in
+          let A = allowedC inWhere (T .w) && (allowedC (inGrouped (T .gs)) (T .h) && all (allowedE (inGrouped (T .gs))) (T .es)) in
           let B′ = subst (λ k. GroupedOf frame p k shape ends r ends′ a) (list ∙ sym (G .from .list))
           (subst (λ (p : Parts). GroupedOf frame p items shape ends r ends′ a) pe B) in
           let W = sym (widths-are c fs) in
           subst (Ruling d r shape ends′ a) (T .same)
-          (ruling-of ends′ a (View.grouped fs (T .w) (T .gs) (T .h) (T .es)) _ _ (T .es) (itemsIn shape ends fs) (productOf shape fs)
-          (ap₂ (λ R I. cond A (cond (leb R 64) (cond (withinC I R (T .w) && (withinC I R (T .h) && all (withinE I R) (T .es))) 0 9) 8) 7)
-          (product-is fs) (ranges-are fs))
-          (ap₂ (λ R I. record { bound = R; ranges = map (range I R) (T .es) }) (product-is fs) (ranges-are fs))
+          (ruling-of ends′ a (View.grouped fs (T .w) (T .gs) (T .h) (T .es)) _ _ (T .es) (openRangesIn shape ends fs (productOf shape fs))
+          (ap (λ I. cond A (cond (leb (I .bound) 64) (cond (withinC I (T .w) && (withinC I (T .h) && all (withinE I) (T .es))) 0 9) 8) 7) (open-are fs))
+          (ap (λ I. record { bound = I .bound; ranges = map (range I) (T .es) }) (open-are fs))
           (B′ .ruled (room-for fs (G .from .earlier)) (G .from .few) (G .narrow) (T .w) (T .gs) (T .h) (T .es) (T .mid) (T .mid′) (T .mid″) (T .rest)
-          (ap (λ cols. readC cols (drop (p .body) frame)) W ∙ T .readW)
+          (ap (λ cols. readC (openItems cols) (drop (p .body) frame)) W ∙ T .readW)
           (ap (λ cols. repeated (p .groups) (placeField cols) (T .mid)) W ∙ T .readG)
-          (ap (λ cols. readC cols (T .mid′)) W ∙ T .readH)
-          (ap (λ cols. repeated (p .width) (readE cols) (T .mid″)) W ∙ T .readS)))
+          (ap (λ cols. readC (openItems cols) (T .mid′)) W ∙ T .readH)
+          (ap (λ cols. repeated (p .width) (readE (openItems cols)) (T .mid″)) W ∙ T .readS)))
 
 -- ---- the whole frame
 

@@ -5,7 +5,7 @@ use Prim.Native.Nat.{ℕ, zero, suc, _+_}
 use lib.IntN.{ℤ}
 use lib.ListN.{getD}
 use Rattle.meaning.specs.Syntax.{Expr}
-use Rattle.language.specs.Reading.{Reader, _>>=_, byteIf, readE, readC}
+use Rattle.language.specs.Reading.{Reader, _>>=_, byteIf, openItems, readE, readC}
 use Rattle.catalog.specs.Arrays.{widthAt}
 use Rattle.language.specs.Draft.{Draft, relationCount}
 use Rattle.language.specs.Frames.{repeated, field, ending, placeField, basicFrame, groupedFrame}
@@ -20,15 +20,15 @@ fromsUnder count = field 1 3 >>= λ n. repeated n (byteIf 6 (under count))
 
 -- m select expressions, and nothing behind them
 unfoldable pub selectEnd : List ℕ → ℕ → Reader (List Expr)
-selectEnd cols m = repeated m (readE cols) >>= λ es. ending es
+selectEnd cols m = repeated m (readE (openItems cols)) >>= λ es. ending es
 
 -- a condition before them: a basic view's where, an aggregate view's having
 unfoldable pub conditionSelect : List ℕ → ℕ → Reader (List Expr)
-conditionSelect cols m = readC cols >>= λ w. selectEnd cols m
+conditionSelect cols m = readC (openItems cols) >>= λ w. selectEnd cols m
 
 -- an aggregate view's where, its g grouping columns, and the rest
 unfoldable pub whereGroups : List ℕ → ℕ → ℕ → Reader (List Expr)
-whereGroups cols g m = readC cols >>= λ w. repeated g (placeField cols) >>= λ gs. conditionSelect cols m
+whereGroups cols g m = readC (openItems cols) >>= λ w. repeated g (placeField cols) >>= λ gs. conditionSelect cols m
 
 -- ---- the from items
 

@@ -8,15 +8,14 @@ use lib.Dec.{ltb, leb}
 use lib.IntN.{ℤ}
 use lib.ListN.{length, getD, drop}
 use Rattle.value.specs.Bag.{All}
-use Rattle.range.specs.declared.Range.{Range}
 use Rattle.range.specs.declared.Ranged.{Ranged}
 use Rattle.range.specs.declared.Ranged.the-variants.{Within, Beyond}
 use Rattle.meaning.specs.Lists.{all}
 use Rattle.meaning.specs.Syntax.{Expr, View}
 use Rattle.language.specs.Reading.{Read, Reader, readE}
-use Rattle.meaning.specs.Bounds.{range, withinE, allowedE}
-use Rattle.catalog.specs.Arrays.{widthAt, boundAt, rangesFrom, itemsIn, putRange, putShape, Outside}
-use Rattle.bounds.specs.Walk.{columnsOf, widthsIn}
+use Rattle.meaning.specs.Bounds.{OpenRanges, range, withinE, allowedE}
+use Rattle.catalog.specs.Arrays.{widthAt, boundAt, rangesFrom, putRange, putShape, Outside}
+use Rattle.bounds.specs.Walk.{permittedOf, openIn, openRangesIn}
 use Rattle.bounds.specs.declared.Rule.{Rule}
 use Rattle.bounds.specs.declared.Tested.{Tested}
 use Rattle.language.specs.Draft.{Draft, Item, added, relationCount}
@@ -58,25 +57,25 @@ pub record EntryRoom (shape : List ℕ) (ends : List ℤ) (items : List ℕ) (r 
 pub record Selects (frame : List ℕ) (start c : ℕ) (items shape : List ℕ) (ends : List ℤ) (r : ℕ) (rule : Rule) (ends′ : List ℤ) (allowed within : Bool) : Type 0 where
   pub outside : c ≤ 8 → Outside r ends ends′
   pub selects : EntryRoom shape ends items r → c ≤ 8 → (es : List Expr) (rest : List ℕ)
-      → repeated c (readE (widthsIn shape items)) (drop start frame) ≡ Read.ok es rest
-      → (allowed ≡ all (allowedE (columnsOf frame rule) (rule .grouped)) es)
-      × (within ≡ all (withinE (itemsIn shape ends items) (rule .bound)) es)
-      × (within ≡ true → rangesFrom ends′ (16 * r) c ≡ map (range (itemsIn shape ends items) (rule .bound)) es)
+      → repeated c (readE (openIn shape items)) (drop start frame) ≡ Read.ok es rest
+      → (allowed ≡ all (allowedE (permittedOf frame rule)) es)
+      × (within ≡ all (withinE (openRangesIn shape ends items (rule .bound))) es)
+      × (within ≡ true → rangesFrom ends′ (16 * r) c ≡ map (range (openRangesIn shape ends items (rule .bound))) es)
 
--- what is answered for a view with the select expressions es: `allowed` is the rule on 07, `within` that on ranges, R the row bound
-pub record RuledAs (allowed within : Bool) (es : List Expr) (I : List (List Range)) (R r : ℕ) (ends ends′ : List ℤ) (a : Ruled) : Type 0 where
-  pub fault : a .fault ≡ viewFault allowed R within
-  pub bound : a .bound ≡ R % 256
+-- what is answered for a view with the select expressions es: `allowed` is the rule on 07, `within` that on ranges, I what is open
+pub record RuledAs (allowed within : Bool) (es : List Expr) (I : OpenRanges) (r : ℕ) (ends ends′ : List ℤ) (a : Ruled) : Type 0 where
+  pub fault : a .fault ≡ viewFault allowed (I .bound) within
+  pub bound : a .bound ≡ I .bound % 256
   pub narrow : a .width ≤ 8
   pub outside : Outside r ends ends′
-  pub ranges : within ≡ true → rangesFrom ends′ (16 * r) (a .width) ≡ map (range I R) es
+  pub ranges : within ≡ true → rangesFrom ends′ (16 * r) (a .width) ≡ map (range I) es
 
 pub record Tail (frame : List ℕ) (head : Tested) (count : ℕ) (items shape : List ℕ) (ends : List ℤ) (r : ℕ) (rule : Rule) (ends′ : List ℤ) (a : Ruled) : Type 0 where
   pub ruled : EntryRoom shape ends items r → count ≤ 8 → (es : List Expr) (rest : List ℕ)
-      → repeated count (readE (widthsIn shape items)) (drop (head .next) frame) ≡ Read.ok es rest
-      → RuledAs (head .allowed && all (allowedE (columnsOf frame rule) (rule .grouped)) es)
-      (head .within && all (withinE (itemsIn shape ends items) (rule .bound)) es)
-      es (itemsIn shape ends items) (rule .bound) r ends ends′ a
+      → repeated count (readE (openIn shape items)) (drop (head .next) frame) ≡ Read.ok es rest
+      → RuledAs (head .allowed && all (allowedE (permittedOf frame rule)) es)
+      (head .within && all (withinE (openRangesIn shape ends items (rule .bound))) es)
+      es (openRangesIn shape ends items (rule .bound)) r ends ends′ a
 
 -- ---- the whole frame
 

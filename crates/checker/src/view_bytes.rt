@@ -5,7 +5,7 @@ use prefix::Skip;
 ghost use mathlib.Core.Path.{_≡_};
 ghost use Prim.Native.Nat.{_≤_};
 ghost use lib.ListN.{length, getD};
-ghost use Rattle.language.specs.Reading.{byteIf, readE};
+ghost use Rattle.language.specs.Reading.{byteIf, openItems, readE};
 ghost use Rattle.prefix.specs.Skipped.{skipped};
 ghost use Rattle.catalog.specs.Arrays.{widthAt};
 ghost use Rattle.language.specs.Frames.{repeated, placeField};
@@ -70,7 +70,7 @@ fn widths(frame: &[u8], shape: &[u8]) -> [u8; 3]
 // Where n expressions end.
 fn expressions(frame: &[u8], at: usize, cols: &[u8], n: u8) -> Skip
     requires { ⌜ at ≤ length (now frame) ⌝ }
-    ensures { λ r. ⌜ r ≡ skipped (now (frame .entry)) at (repeated n (readE (now (cols .entry)))) ⌝ }
+    ensures { λ r. ⌜ r ≡ skipped (now (frame .entry)) at (repeated n (readE (openItems (now (cols .entry))))) ⌝ }
 {
     let mut next = at;
     let mut left = n;

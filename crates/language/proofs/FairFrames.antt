@@ -13,6 +13,7 @@ use Rattle.value.proofs.Decides.{and-parts}
 use Rattle.meaning.specs.Lists.{all}
 use Rattle.meaning.specs.Syntax.{SetOperation}
 use Rattle.meaning.specs.Bounds.{ordered, earlier}
+use Rattle.language.specs.Reading.{openItems}
 use Rattle.language.specs.Draft.{Draft, Item, relationCount, isTable, isView, width, schemasOf, stageOf}
 use Rattle.language.specs.Frames.{columnField, tableFrame, pairField, keyFrame, fromList, basicFrame, placeField, groupedFrame, setFrame, goalFrame, frame}
 use Rattle.language.specs.Legal.{NamesView}
@@ -69,13 +70,13 @@ module _ (d : Draft) where
   fair-basic : Fair Nil (basicFrame d) (InPlace 3)
   fair-basic =
       fair-bind fair-from (λ fs h. fair-bind (fair-field 1 8) (λ n _. let cols = map (width d) fs in
-      fair-bind (fairC cols) (λ w _. fair-bind (fair-times (fairE cols) n) (λ es _. fair-ending _ (refl, h)))))
+      fair-bind (fairC (openItems cols)) (λ w _. fair-bind (fair-times (fairE (openItems cols)) n) (λ es _. fair-ending _ (refl, h)))))
 
   fair-grouped : Fair Nil (groupedFrame d) (InPlace 3)
   fair-grouped =
       fair-bind fair-from (λ fs h. fair-bind (fair-field 0 4) (λ g _. fair-bind (fair-field 1 8) (λ n _. let cols = map (width d) fs in
-      fair-bind (fairC cols) (λ w _. fair-bind (fair-times (fair-place cols) g) (λ gs _. fair-bind (fairC cols) (λ v _.
-      fair-bind (fair-times (fairE cols) n) (λ es _. fair-ending _ (refl, h))))))))
+      fair-bind (fairC (openItems cols)) (λ w _. fair-bind (fair-times (fair-place cols) g) (λ gs _. fair-bind (fairC (openItems cols)) (λ v _.
+      fair-bind (fair-times (fairE (openItems cols)) n) (λ es _. fair-ending _ (refl, h))))))))
 
   fair-set : (op : SetOperation) → Fair Nil (setFrame d op) (InPlace 3)
   fair-set op =

@@ -12,7 +12,7 @@ use borrow.Author.Tests.{leb-true}
 use Rattle.value.specs.Bag.{All}
 use Rattle.value.proofs.Decides.{and-parts}
 use Rattle.meaning.specs.Syntax.{Expr, Cond}
-use Rattle.language.specs.Reading.{Read, Reader, done, refuse, andThen, _>>=_, byte, either, byteIf, choose, step, place, expressions, conditions, deepE, deepC, readE, readC}
+use Rattle.language.specs.Reading.{Read, Reader, Open, done, refuse, andThen, _>>=_, byte, either, byteIf, choose, step, place, expressions, conditions, deepE, deepC, readE, readC}
 use Rattle.language.specs.Frames.{repeated, field, ending}
 use Rattle.language.specs.Legal.{Limits}
 
@@ -120,13 +120,13 @@ fair-step : Fair Anything step Anything
 fair-step =
     fair-bind (fair-two {B = ℕ} _ fair-byte fair-byte) (λ m _. fair-either (leb 1 m && leb m 1000) (λ _. fair-done tt) (λ _. fair-refuse five))
 
-module _ (cols : List ℕ) where
-  fair-place : Fair Anything (place cols) Anything
+module _ (o : Open) where
+  fair-place : Fair Anything (place (o .widths)) Anything
   fair-place =
-      fair-bind (fair-byteIf (λ i. ltb i (length cols)) six) (λ i _. fair-bind (fair-byteIf (λ c. ltb c (getD cols i 0)) six) (λ c _. fair-done tt))
+      fair-bind (fair-byteIf (λ i. ltb i (length (o .widths))) six) (λ i _. fair-bind (fair-byteIf (λ c. ltb c (getD (o .widths) i 0)) six) (λ c _. fair-done tt))
 
   module _ {e : Reader Expr} {c : Reader Cond} (fe : Fair Anything e Anything) (fc : Fair Anything c Anything) where
-    fair-expressions : FairAll (expressions cols e c)
+    fair-expressions : FairAll (expressions o e c)
     fair-expressions =
         entry (fair-two _ fair-byte fair-byte)
         (entry fair-place
@@ -152,18 +152,18 @@ module _ (cols : List ℕ) where
   mutual
     unfolding deepE
 
-    deep-fairE : (n : ℕ) → Fair Anything (deepE cols n) Anything
+    deep-fairE : (n : ℕ) → Fair Anything (deepE o n) Anything
     deep-fairE zero = fair-refuse four
     deep-fairE (suc n) = fair-bind fair-byte (λ t _. fair-choose (fair-expressions (deep-fairE n) (deep-fairC n)) t)
 
-    deep-fairC : (n : ℕ) → Fair Anything (deepC cols n) Anything
+    deep-fairC : (n : ℕ) → Fair Anything (deepC o n) Anything
     deep-fairC zero = fair-refuse four
     deep-fairC (suc n) = fair-bind fair-byte (λ t _. fair-choose (fair-conditions (deep-fairE n) (deep-fairC n)) t)
 
-  pub fairE : Fair Anything (readE cols) Anything
+  pub fairE : Fair Anything (readE o) Anything
   unfolding readE
   fairE = record { good = λ bs. deep-fairE (length bs) .good bs }
 
-  pub fairC : Fair Anything (readC cols) Anything
+  pub fairC : Fair Anything (readC o) Anything
   unfolding readC
   fairC = record { good = λ bs. deep-fairC (length bs) .good bs }

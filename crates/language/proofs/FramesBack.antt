@@ -18,7 +18,7 @@ use Rattle.value.proofs.Values.{all-map}
 use Rattle.meaning.specs.Lists.{joined}
 use Rattle.meaning.specs.Syntax.{Expr, Cond, Place, Pair, SetOperation, View, Table, ForeignKey, Goal}
 use Rattle.language.specs.Prefix.{encodeE, encodeC}
-use Rattle.language.specs.Reading.{Read, Reader, done, refuse, either, byteIf, readE, InLimitsE}
+use Rattle.language.specs.Reading.{Read, Reader, done, refuse, either, byteIf, Open, openItems, readE, InLimitsE}
 use Rattle.language.proofs.Readers.{one}
 use Rattle.language.proofs.PrefixForms.{constant-fits, backE, backC}
 use Rattle.language.specs.Draft.{Draft, Item, relationCount, isView, width, schemasOf}
@@ -70,8 +70,8 @@ table-back t h =
 pair-back : (c p : ℕ) (q : Pair) → LegalPair c p q → Back (pairField c p) pairBytes q
 pair-back c p q h = record { back = λ rest. rw (lt-ltb _ _ (h .child), lt-ltb _ _ (h .parent)) }
 
-expression-back : (cols : List ℕ) (e : Expr) → InLimitsE cols e → Back (readE cols) encodeE e
-expression-back cols e h = record { back = λ rest. backE cols e rest h }
+expression-back : (o : Open) (e : Expr) → InLimitsE o e → Back (readE o) encodeE e
+expression-back o e h = record { back = λ rest. backE o e rest h }
 
 place-back : (cols : List ℕ) (p : Place) → LegalPlace cols p → Back (placeField cols) placeBytes p
 place-back cols p h = record { back = λ rest. rw (lt-ltb _ _ (h .item), lt-ltb _ _ (h .column)) }
@@ -105,8 +105,8 @@ module _ (d : Draft) where
       rw (
         from-back fs _ (h .relations),
         limits-true (h .select .count),
-        backC cols w _ (h .condition),
-        times-end (all-map (expression-back cols) (h .select .limits)),
+        backC (openItems cols) w _ (h .condition),
+        times-end (all-map (expression-back (openItems cols)) (h .select .limits)),
       )
 
   pub grouped-back : (fs : List ℕ) (w : Cond) (gs : List Place) (v : Cond) (es : List Expr) → LegalGrouped (schemasOf d) fs w gs v es
@@ -119,10 +119,10 @@ module _ (d : Draft) where
         limits-true (h .count),
         limits-true (h .select .count),
         regroup (encodeC w) (joined (map placeBytes gs)) (encodeC v) (joined (map encodeE es)),
-        backC cols w _ (h .condition),
+        backC (openItems cols) w _ (h .condition),
         times-back (all-map (place-back cols) (h .grouping)) _,
-        backC cols v _ (h .having),
-        times-end (all-map (expression-back cols) (h .select .limits)),
+        backC (openItems cols) v _ (h .having),
+        times-end (all-map (expression-back (openItems cols)) (h .select .limits)),
       )
 
   is-view : {r i : ℕ} → r ≡ relationCount d → NamesView (length (d .tables)) r i → isView d i ≡ true

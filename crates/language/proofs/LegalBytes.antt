@@ -19,7 +19,7 @@ use Rattle.value.proofs.Values.{all-map}
 use Rattle.meaning.specs.Lists.{joined}
 use Rattle.meaning.specs.Syntax.{Expr, Cond, Place, Pair, SetOperation, View, Table, ForeignKey, Goal, File}
 use Rattle.language.specs.Prefix.{operationToken, comparisonToken, connectiveToken, aggregateByte, encodeE, encodeC}
-use Rattle.language.specs.Reading.{InLimitsE, InLimitsC}
+use Rattle.language.specs.Reading.{openItems, InLimitsE, InLimitsC}
 use Rattle.meaning.specs.Bounds.{Schema, schema, noSchema, tableSchema, viewSchema}
 use Rattle.meaning.proofs.Elements.{all-append, all-at, all-image}
 use Rattle.meaning.proofs.Sizes.{length-setRanges}
@@ -85,7 +85,7 @@ module _ (cols : List ℕ) (few : length cols ≤ 3) (narrow : All (λ c. c ≤ 
   mutual
     unfolding encodeE InLimitsE
 
-    bytesE : (e : Expr) → InLimitsE cols e → All Byte (encodeE e)
+    bytesE : (e : Expr) → InLimitsE (openItems cols) e → All Byte (encodeE e)
     bytesE (Expr.constant z) h = put 0x00 (omega arith) (All.cons (high-limit z (h .0) (h .1)) (All.cons (low-limit z (h .0) (h .1)) All.nil))
     bytesE (Expr.column i c) h = put 0x01 (omega arith) (All.cons (item-byte (h .0)) (All.cons (column-byte (h .0) (h .1)) All.nil))
     bytesE (Expr.operation op a b) h = All.cons (operation-byte op) (all-append (bytesE a (h .0)) (bytesE b (h .1)))
@@ -93,7 +93,7 @@ module _ (cols : List ℕ) (few : length cols ≤ 3) (narrow : All (λ c. c ≤ 
     bytesE (Expr.choice c a b) h = put 0x06 (omega arith) (all-append (all-append (bytesC c (h .0)) (bytesE a (h .1))) (bytesE b (h .2)))
     bytesE (Expr.aggregate op a) h = put 0x07 (omega arith) (All.cons (aggregate-byte op) (bytesE a h))
 
-    bytesC : (c : Cond) → InLimitsC cols c → All Byte (encodeC c)
+    bytesC : (c : Cond) → InLimitsC (openItems cols) c → All Byte (encodeC c)
     bytesC Cond.always h = put 0x10 (omega arith) All.nil
     bytesC (Cond.comparison op a b) h = All.cons (comparison-byte op) (all-append (bytesE a (h .0)) (bytesE b (h .1)))
     bytesC (Cond.negated c) h = put 0x14 (omega arith) (bytesC c h)
@@ -161,7 +161,7 @@ module _ (t : ℕ) (ss : List Schema) (n : length ss ≤ 16) (narrow : All Narro
   from-narrow : (fs : List ℕ) → LegalFrom ss fs → All (λ c. c ≤ 8) (widths ss fs)
   from-narrow fs h = all-image _ (λ i k. all-at narrow noSchema i k) (h .earlier)
 
-  select-bytes : (fs : List ℕ) (es : List Expr) → LegalFrom ss fs → LegalSelect (widths ss fs) es → All Byte (joined (map encodeE es))
+  select-bytes : (fs : List ℕ) (es : List Expr) → LegalFrom ss fs → LegalSelect (openItems (widths ss fs)) es → All Byte (joined (map encodeE es))
   select-bytes fs es f h = all-joined (all-map (bytesE (widths ss fs) (from-few fs f) (from-narrow fs f)) (h .limits))
 
   kind-byte : (op : SetOperation) → Byte (setKind op)

@@ -26,7 +26,7 @@ use Rattle.value.proofs.Linear.{diff-parts, ints}
 use Rattle.value.proofs.TwosComplement.{bytes-back, high-back, low-back, signed-low, signed-high}
 use Rattle.meaning.specs.Syntax.{Expr, Cond}
 use Rattle.language.specs.Prefix.{operationToken, comparisonToken, connectiveToken, aggregateByte, encodeE, encodeC}
-use Rattle.language.specs.Reading.{Read, Reader, done, _>>=_, choose, place, expressions, conditions, deepE, deepC, readE, readC, InLimitsE, InLimitsC}
+use Rattle.language.specs.Reading.{Read, Reader, Open, openItems, done, _>>=_, choose, place, expressions, conditions, deepE, deepC, readE, readC, InLimitsE, InLimitsC}
 use Rattle.language.proofs.Readers.{Byte, one, Sound, SoundAll, entry, none, sound-done, sound-refuse, sound-bind, sound-byte, sound-byteIf, sound-step, sound-table, Alike, alike-suffix, Agree, AgreeAll, agree-done, agree-bind, agree-byte, agree-byteIf, agree-step, choose-same, agree-table, agree-empty, agree-deep, read-once}
 
 -- ---- fields
@@ -59,44 +59,44 @@ aggregate-at Aggregate.sum = (refl, refl)
 aggregate-at Aggregate.minimum = (refl, refl)
 aggregate-at Aggregate.maximum = (refl, refl)
 
-module _ (cols : List ℕ) where
+module _ (o : Open) where
   abbrev SoundE : Reader Expr → Type 0
-  SoundE e = Sound [] e encodeE (InLimitsE cols)
+  SoundE e = Sound [] e encodeE (InLimitsE o)
 
   abbrev SoundC : Reader Cond → Type 0
-  SoundC c = Sound [] c encodeC (InLimitsC cols)
+  SoundC c = Sound [] c encodeC (InLimitsC o)
 
-  sound-place : Sound (one 0x01) (place cols) encodeE (InLimitsE cols)
+  sound-place : Sound (one 0x01) (place (o .widths)) encodeE (InLimitsE o)
   unfolding encodeE InLimitsE
   sound-place =
-      sound-bind (sound-byteIf 6 (λ i. ltb i (length cols))) (λ i p. sound-bind (sound-byteIf 6 (λ c. ltb c (getD cols i 0)))
-      (λ c q. sound-done (Expr.column i c) refl (ltb-true i (length cols) p, ltb-true c (getD cols i 0) q)))
+      sound-bind (sound-byteIf 6 (λ i. ltb i (length (o .widths)))) (λ i p. sound-bind (sound-byteIf 6 (λ c. ltb c (getD (o .widths) i 0)))
+      (λ c q. sound-done (Expr.column i c) refl (ltb-true i (length (o .widths)) p, ltb-true c (getD (o .widths) i 0) q)))
 
-  agree-place : {k : ℕ} → Agree k (place cols) (place cols)
+  agree-place : {k : ℕ} → Agree k (place (o .widths)) (place (o .widths))
   agree-place =
-      agree-bind (agree-byteIf 6 (λ i. ltb i (length cols))) (λ i. agree-bind (agree-byteIf 6 (λ c. ltb c (getD cols i 0))) (λ c. agree-done))
+      agree-bind (agree-byteIf 6 (λ i. ltb i (length (o .widths)))) (λ i. agree-bind (agree-byteIf 6 (λ c. ltb c (getD (o .widths) i 0))) (λ c. agree-done))
 
   -- ---- soundness: one line for each token
   module _ {e : Reader Expr} {c : Reader Cond} (se : SoundE e) (sc : SoundC c) where
-    sound-operation : (op : Operation) → Sound (one (operationToken op)) (e >>= λ a. e >>= λ b. done (Expr.operation op a b)) encodeE (InLimitsE cols)
+    sound-operation : (op : Operation) → Sound (one (operationToken op)) (e >>= λ a. e >>= λ b. done (Expr.operation op a b)) encodeE (InLimitsE o)
     unfolding encodeE InLimitsE
     sound-operation op = sound-bind se (λ a p. sound-bind se (λ b q. sound-done (Expr.operation op a b) refl (p, q)))
 
-    sound-comparison : (op : Comparison) → Sound (one (comparisonToken op)) (e >>= λ a. e >>= λ b. done (Cond.comparison op a b)) encodeC (InLimitsC cols)
+    sound-comparison : (op : Comparison) → Sound (one (comparisonToken op)) (e >>= λ a. e >>= λ b. done (Cond.comparison op a b)) encodeC (InLimitsC o)
     unfolding encodeC InLimitsC
     sound-comparison op = sound-bind se (λ a p. sound-bind se (λ b q. sound-done (Cond.comparison op a b) refl (p, q)))
 
-    sound-connection : (op : Connective) → Sound (one (connectiveToken op)) (c >>= λ s. c >>= λ t. done (Cond.connection op s t)) encodeC (InLimitsC cols)
+    sound-connection : (op : Connective) → Sound (one (connectiveToken op)) (c >>= λ s. c >>= λ t. done (Cond.connection op s t)) encodeC (InLimitsC o)
     unfolding encodeC InLimitsC
     sound-connection op = sound-bind sc (λ s p. sound-bind sc (λ t q. sound-done (Cond.connection op s t) refl (p, q)))
 
-    sound-aggregate : (n : ℕ) → leb n 3 ≡ true → Sound (0x07 ∷ n ∷ []) (e >>= λ a. done (Expr.aggregate (aggregateAt n) a)) encodeE (InLimitsE cols)
+    sound-aggregate : (n : ℕ) → leb n 3 ≡ true → Sound (0x07 ∷ n ∷ []) (e >>= λ a. done (Expr.aggregate (aggregateAt n) a)) encodeE (InLimitsE o)
     unfolding encodeE InLimitsE
     sound-aggregate n h =
         let b : n ≡ aggregateByte (aggregateAt n) = sym (aggregate-back n (leb-true n 3 h)) in
         sound-bind se (λ a p. sound-done (Expr.aggregate (aggregateAt n) a) (ap (λ (t : ℕ). 0x07 ∷ t ∷ encodeE a) b) p)
 
-    sound-expressions : SoundAll encodeE (InLimitsE cols) (expressions cols e c)
+    sound-expressions : SoundAll encodeE (InLimitsE o) (expressions o e c)
     unfolding encodeE InLimitsE
     sound-expressions =
         entry (sound-bind sound-byte (λ h p. sound-bind sound-byte (λ l q. sound-done (Expr.constant (bytesZ h l)) (constant-back h l p q) (constant-limits h l p q))))
@@ -109,7 +109,7 @@ module _ (cols : List ℕ) where
         (entry (sound-bind (sound-byteIf 5 (λ n. leb n 3)) sound-aggregate)
         none)))))))
 
-    sound-conditions : SoundAll encodeC (InLimitsC cols) (conditions e c)
+    sound-conditions : SoundAll encodeC (InLimitsC o) (conditions e c)
     unfolding encodeC InLimitsC
     sound-conditions =
         entry (sound-done Cond.always refl tt)
@@ -124,19 +124,19 @@ module _ (cols : List ℕ) where
   mutual
     unfolding deepE
 
-    deep-soundE : (n : ℕ) → SoundE (deepE cols n)
+    deep-soundE : (n : ℕ) → SoundE (deepE o n)
     deep-soundE zero = sound-refuse
     deep-soundE (suc n) = sound-table (sound-expressions (deep-soundE n) (deep-soundC n))
 
-    deep-soundC : (n : ℕ) → SoundC (deepC cols n)
+    deep-soundC : (n : ℕ) → SoundC (deepC o n)
     deep-soundC zero = sound-refuse
     deep-soundC (suc n) = sound-table (sound-conditions (deep-soundE n) (deep-soundC n))
 
-  pub soundE : (bs : List ℕ) (e : Expr) (rest : List ℕ) → All Byte bs → readE cols bs ≡ Read.ok e rest → (bs ≡ encodeE e ++ rest) × InLimitsE cols e
+  pub soundE : (bs : List ℕ) (e : Expr) (rest : List ℕ) → All Byte bs → readE o bs ≡ Read.ok e rest → (bs ≡ encodeE e ++ rest) × InLimitsE o e
   unfolding readE
   soundE bs = deep-soundE (length bs) .reads bs
 
-  pub soundC : (bs : List ℕ) (c : Cond) (rest : List ℕ) → All Byte bs → readC cols bs ≡ Read.ok c rest → (bs ≡ encodeC c ++ rest) × InLimitsC cols c
+  pub soundC : (bs : List ℕ) (c : Cond) (rest : List ℕ) → All Byte bs → readC o bs ≡ Read.ok c rest → (bs ≡ encodeC c ++ rest) × InLimitsC o c
   unfolding readC
   soundC bs = deep-soundC (length bs) .reads bs
 
@@ -148,7 +148,7 @@ module _ (cols : List ℕ) where
     agree-connection : (op : Connective) → Agree k (c >>= λ s. c >>= λ t. done (Cond.connection op s t)) (d >>= λ s. d >>= λ t. done (Cond.connection op s t))
     agree-connection op = agree-bind ac (λ s. agree-bind ac (λ t. agree-done))
 
-    agree-expressions : AgreeAll k (expressions cols e c) (expressions cols f d)
+    agree-expressions : AgreeAll k (expressions o e c) (expressions o f d)
     agree-expressions =
         entry (agree-bind agree-byte (λ h. agree-bind agree-byte (λ l. agree-done)))
         (entry agree-place
@@ -171,12 +171,12 @@ module _ (cols : List ℕ) where
         (entry (agree-connection Connective.disjunction)
         none))))))
 
-  emptyE : (n : ℕ) → deepE cols n [] ≡ Read.refused 4
+  emptyE : (n : ℕ) → deepE o n [] ≡ Read.refused 4
   unfolding deepE
   emptyE zero = refl
   emptyE (suc n) = refl
 
-  emptyC : (n : ℕ) → deepC cols n [] ≡ Read.refused 4
+  emptyC : (n : ℕ) → deepC o n [] ≡ Read.refused 4
   unfolding deepC
   emptyC zero = refl
   emptyC (suc n) = refl
@@ -185,65 +185,65 @@ module _ (cols : List ℕ) where
   mutual
     unfolding deepE
 
-    enoughE : (n m k : ℕ) → k ≤ n → k ≤ m → Agree k (deepE cols n) (deepE cols m)
+    enoughE : (n m k : ℕ) → k ≤ n → k ≤ m → Agree k (deepE o n) (deepE o m)
     enoughE zero m k p q = agree-empty p (rw (emptyE m) Alike.refusal)
     enoughE (suc n) zero k p q = agree-empty q Alike.refusal
     enoughE (suc n) (suc m) k p q =
         agree-table (λ j h. agree-expressions (enoughE n m j (omega arith) (omega arith)) (enoughC n m j (omega arith) (omega arith)))
 
-    enoughC : (n m k : ℕ) → k ≤ n → k ≤ m → Agree k (deepC cols n) (deepC cols m)
+    enoughC : (n m k : ℕ) → k ≤ n → k ≤ m → Agree k (deepC o n) (deepC o m)
     enoughC zero m k p q = agree-empty p (rw (emptyC m) Alike.refusal)
     enoughC (suc n) zero k p q = agree-empty q Alike.refusal
     enoughC (suc n) (suc m) k p q =
         agree-table (λ j h. agree-conditions (enoughE n m j (omega arith) (omega arith)) (enoughC n m j (omega arith) (omega arith)))
 
-  deep-readE : (n : ℕ) → Agree n (deepE cols n) (readE cols)
+  deep-readE : (n : ℕ) → Agree n (deepE o n) (readE o)
   unfolding readE
   deep-readE = agree-deep enoughE
 
-  deep-readC : (n : ℕ) → Agree n (deepC cols n) (readC cols)
+  deep-readC : (n : ℕ) → Agree n (deepC o n) (readC o)
   unfolding readC
   deep-readC = agree-deep enoughC
 
   -- ---- whatever the bytes are, those behind a tree end them
-  pub suffixE : (bs : List ℕ) (e : Expr) (rest : List ℕ) → readE cols bs ≡ Read.ok e rest → (used : List ℕ) × (bs ≡ used ++ rest)
+  pub suffixE : (bs : List ℕ) (e : Expr) (rest : List ℕ) → readE o bs ≡ Read.ok e rest → (used : List ℕ) × (bs ≡ used ++ rest)
   suffixE bs e rest = alike-suffix (deep-readE (length bs) .same bs (le-refl (length bs)))
 
-  pub suffixC : (bs : List ℕ) (c : Cond) (rest : List ℕ) → readC cols bs ≡ Read.ok c rest → (used : List ℕ) × (bs ≡ used ++ rest)
+  pub suffixC : (bs : List ℕ) (c : Cond) (rest : List ℕ) → readC o bs ≡ Read.ok c rest → (used : List ℕ) × (bs ≡ used ++ rest)
   suffixC bs c rest = alike-suffix (deep-readC (length bs) .same bs (le-refl (length bs)))
 
   -- ---- reading goes by the token
-  pub readE-nil : readE cols [] ≡ Read.refused 4
+  pub readE-nil : readE o [] ≡ Read.refused 4
   unfolding readE
   readE-nil = emptyE 0
 
-  pub readC-nil : readC cols [] ≡ Read.refused 4
+  pub readC-nil : readC o [] ≡ Read.refused 4
   unfolding readC
   readC-nil = emptyC 0
 
-  pub readE-step : (t : ℕ) (bs : List ℕ) → readE cols (t ∷ bs) ≡ choose (expressions cols (readE cols) (readC cols)) t bs
+  pub readE-step : (t : ℕ) (bs : List ℕ) → readE o (t ∷ bs) ≡ choose (expressions o (readE o) (readC o)) t bs
   unfolding readE deepE
   readE-step t bs = choose-same t bs (agree-expressions (deep-readE (length bs)) (deep-readC (length bs)))
 
-  pub readC-step : (t : ℕ) (bs : List ℕ) → readC cols (t ∷ bs) ≡ choose (conditions (readE cols) (readC cols)) t bs
+  pub readC-step : (t : ℕ) (bs : List ℕ) → readC o (t ∷ bs) ≡ choose (conditions (readE o) (readC o)) t bs
   unfolding readC deepC
   readC-step t bs = choose-same t bs (agree-conditions (deep-readE (length bs)) (deep-readC (length bs)))
 
   -- the tokens of one kind of node
   pub readE-operation : (op : Operation) (bs : List ℕ)
-      → readE cols (operationToken op ∷ bs) ≡ (readE cols >>= λ a. readE cols >>= λ b. done (Expr.operation op a b)) bs
+      → readE o (operationToken op ∷ bs) ≡ (readE o >>= λ a. readE o >>= λ b. done (Expr.operation op a b)) bs
   readE-operation Operation.sum = readE-step 0x02
   readE-operation Operation.difference = readE-step 0x03
   readE-operation Operation.product = readE-step 0x04
 
   pub readC-comparison : (op : Comparison) (bs : List ℕ)
-      → readC cols (comparisonToken op ∷ bs) ≡ (readE cols >>= λ a. readE cols >>= λ b. done (Cond.comparison op a b)) bs
+      → readC o (comparisonToken op ∷ bs) ≡ (readE o >>= λ a. readE o >>= λ b. done (Cond.comparison op a b)) bs
   readC-comparison Comparison.equal = readC-step 0x11
   readC-comparison Comparison.less = readC-step 0x12
   readC-comparison Comparison.lessEqual = readC-step 0x13
 
   pub readC-connection : (op : Connective) (bs : List ℕ)
-      → readC cols (connectiveToken op ∷ bs) ≡ (readC cols >>= λ s. readC cols >>= λ t. done (Cond.connection op s t)) bs
+      → readC o (connectiveToken op ∷ bs) ≡ (readC o >>= λ s. readC o >>= λ t. done (Cond.connection op s t)) bs
   readC-connection Connective.conjunction = readC-step 0x15
   readC-connection Connective.disjunction = readC-step 0x16
 
@@ -251,7 +251,7 @@ module _ (cols : List ℕ) where
   mutual
     unfolding encodeE InLimitsE
 
-    pub backE : (e : Expr) (rest : List ℕ) → InLimitsE cols e → readE cols (encodeE e ++ rest) ≡ Read.ok e rest
+    pub backE : (e : Expr) (rest : List ℕ) → InLimitsE o e → readE o (encodeE e ++ rest) ≡ Read.ok e rest
     backE (Expr.constant z) rest h =
         readE-step 0x00 (highByte z ∷ lowByte z ∷ rest) ∙ ap (λ (n : ℤ). Read.ok (Expr.constant n) rest) (bytes-back z (constant-fits z (h .0) (h .1)))
     backE (Expr.column i c) rest h = readE-step 0x01 (i ∷ c ∷ rest) ∙ rw (lt-ltb _ _ (h .0), lt-ltb _ _ (h .1))
@@ -271,7 +271,7 @@ module _ (cols : List ℕ) where
     backE (Expr.aggregate op a) rest h =
         readE-step 0x07 _ ∙ rw (aggregate-at op .0, backE a _ h, aggregate-at op .1)
 
-    pub backC : (c : Cond) (rest : List ℕ) → InLimitsC cols c → readC cols (encodeC c ++ rest) ≡ Read.ok c rest
+    pub backC : (c : Cond) (rest : List ℕ) → InLimitsC o c → readC o (encodeC c ++ rest) ≡ Read.ok c rest
     backC Cond.always rest h = readC-step 0x10 rest
     backC (Cond.comparison op a b) rest h =
         readC-comparison op _ ∙ rw (append-assoc (encodeE a) (encodeE b) rest, backE a _ (h .0), backE b _ (h .1))
@@ -280,13 +280,13 @@ module _ (cols : List ℕ) where
         readC-connection op _ ∙ rw (append-assoc (encodeC c) (encodeC d) rest, backC c _ (h .0), backC d _ (h .1))
 
   -- ---- no bytes begin with two encodings
-  pub uniqueE : (e e′ : Expr) (rest rest′ : List ℕ) → InLimitsE cols e → InLimitsE cols e′ → encodeE e ++ rest ≡ encodeE e′ ++ rest′
+  pub uniqueE : (e e′ : Expr) (rest rest′ : List ℕ) → InLimitsE o e → InLimitsE o e′ → encodeE e ++ rest ≡ encodeE e′ ++ rest′
       → (e ≡ e′) × (rest ≡ rest′)
-  uniqueE e e′ rest rest′ p q = read-once (readE cols) (backE e rest p) (backE e′ rest′ q)
+  uniqueE e e′ rest rest′ p q = read-once (readE o) (backE e rest p) (backE e′ rest′ q)
 
-  pub uniqueC : (c c′ : Cond) (rest rest′ : List ℕ) → InLimitsC cols c → InLimitsC cols c′ → encodeC c ++ rest ≡ encodeC c′ ++ rest′
+  pub uniqueC : (c c′ : Cond) (rest rest′ : List ℕ) → InLimitsC o c → InLimitsC o c′ → encodeC c ++ rest ≡ encodeC c′ ++ rest′
       → (c ≡ c′) × (rest ≡ rest′)
-  uniqueC c c′ rest rest′ p q = read-once (readC cols) (backC c rest p) (backC c′ rest′ q)
+  uniqueC c c′ rest rest′ p q = read-once (readC o) (backC c rest p) (backC c′ rest′ q)
 
 -- ---- examples, over one from item with one column: document 01's where condition, 8 < column 0 of from item 0, and its select expression
 where-condition : Cond
@@ -302,28 +302,28 @@ where-encodes : encodeC where-condition ≡ where-bytes
 unfolding encodeC where-condition where-bytes bitsOf
 where-encodes = refl
 
-where-reads : readC (1 ∷ []) (where-bytes ++ select-bytes) ≡ Read.ok where-condition select-bytes
+where-reads : readC (openItems (1 ∷ [])) (where-bytes ++ select-bytes) ≡ Read.ok where-condition select-bytes
 unfolding readC deepC where-condition where-bytes select-bytes signedOf
 where-reads = refl
 
-select-reads : readE (1 ∷ []) select-bytes ≡ Read.ok (Expr.column 0 0) []
+select-reads : readE (openItems (1 ∷ [])) select-bytes ≡ Read.ok (Expr.column 0 0) []
 unfolding readE deepE select-bytes
 select-reads = refl
 
 -- 4: the bytes end early, and a condition token stands where an expression is due
-ends-early : readE (1 ∷ []) (0x02 ∷ 0x01 ∷ 0x00 ∷ 0x00 ∷ []) ≡ Read.refused 4
+ends-early : readE (openItems (1 ∷ [])) (0x02 ∷ 0x01 ∷ 0x00 ∷ 0x00 ∷ []) ≡ Read.refused 4
 unfolding readE deepE
 ends-early = refl
 
-not-an-expression : readE (1 ∷ []) where-bytes ≡ Read.refused 4
+not-an-expression : readE (openItems (1 ∷ [])) where-bytes ≡ Read.refused 4
 unfolding readE deepE where-bytes
 not-an-expression = refl
 
 -- 5: a step of 1,001; 6: a second from item
-step-too-large : readE (1 ∷ []) (0x05 ∷ 0x03 ∷ 0xe9 ∷ select-bytes) ≡ Read.refused 5
+step-too-large : readE (openItems (1 ∷ [])) (0x05 ∷ 0x03 ∷ 0xe9 ∷ select-bytes) ≡ Read.refused 5
 unfolding readE deepE select-bytes
 step-too-large = refl
 
-no-such-item : readE (1 ∷ []) (0x01 ∷ 0x01 ∷ 0x00 ∷ []) ≡ Read.refused 6
+no-such-item : readE (openItems (1 ∷ [])) (0x01 ∷ 0x01 ∷ 0x00 ∷ []) ≡ Read.refused 6
 unfolding readE deepE
 no-such-item = refl

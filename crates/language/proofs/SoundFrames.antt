@@ -16,7 +16,7 @@ use Rattle.value.proofs.Values.{all-map}
 use Rattle.meaning.specs.Lists.{joined}
 use Rattle.meaning.specs.Syntax.{Place, Pair, SetOperation}
 use Rattle.language.specs.Prefix.{encodeE, encodeC}
-use Rattle.language.specs.Reading.{Read, Reader, readE, readC, InLimitsE, InLimitsC}
+use Rattle.language.specs.Reading.{Read, Reader, Open, openItems, readE, readC, InLimitsE, InLimitsC}
 use Rattle.language.proofs.Readers.{Byte, one, Sound, sound-done, sound-refuse, sound-bind, sound-either, sound-byte, sound-byteIf}
 use Rattle.language.proofs.PrefixForms.{constant-limits, soundE, soundC}
 use Rattle.language.specs.Draft.{Draft, Item, relationCount, isTable, isView, width, schemasOf, stageOf}
@@ -88,11 +88,11 @@ sound-pair : (c p : ℕ) → Sound [] (pairField c p) pairBytes (LegalPair c p)
 sound-pair c p = sound-bind (sound-byteIf 6 (λ i. ltb i c)) (λ i hi. sound-bind (sound-byteIf 6 (λ j. ltb j p)) (λ j hj.
     sound-done (record { child = i; parent = j }) refl (record { child = ltb-true i c hi; parent = ltb-true j p hj })))
 
-sound-expression : (cols : List ℕ) → Sound [] (readE cols) encodeE (InLimitsE cols)
-sound-expression cols = record { reads = soundE cols }
+sound-expression : (o : Open) → Sound [] (readE o) encodeE (InLimitsE o)
+sound-expression o = record { reads = soundE o }
 
-sound-condition : (cols : List ℕ) → Sound [] (readC cols) encodeC (InLimitsC cols)
-sound-condition cols = record { reads = soundC cols }
+sound-condition : (o : Open) → Sound [] (readC o) encodeC (InLimitsC o)
+sound-condition o = record { reads = soundC o }
 
 sound-place : (cols : List ℕ) → Sound [] (placeField cols) placeBytes (LegalPlace cols)
 sound-place cols =
@@ -137,7 +137,7 @@ module _ (d : Draft) where
   unfolding viewBytes
   sound-basic =
       sound-bind sound-from (λ fs hf. sound-bind (sound-field 1 8) (λ n hn. let cols = map (width d) fs in
-      sound-bind (sound-condition cols) (λ w hw. sound-bind (sound-times (sound-expression cols) n) (λ es h. sound-ending _
+      sound-bind (sound-condition (openItems cols)) (λ w hw. sound-bind (sound-times (sound-expression (openItems cols)) n) (λ es h. sound-ending _
       (simp (append-assoc, h .0))
       (record { relations = hf; condition = hw; select = record { count = rw (h .0) hn; limits = h .1 } })))))
 
@@ -145,8 +145,8 @@ module _ (d : Draft) where
   unfolding viewBytes
   sound-grouped =
       sound-bind sound-from (λ fs hf. sound-bind (sound-field 0 4) (λ g hg. sound-bind (sound-field 1 8) (λ n hn. let cols = map (width d) fs in
-      sound-bind (sound-condition cols) (λ w hw. sound-bind (sound-times (sound-place cols) g) (λ gs hs. sound-bind (sound-condition cols) (λ v hv.
-      sound-bind (sound-times (sound-expression cols) n) (λ es h. sound-ending _
+      sound-bind (sound-condition (openItems cols)) (λ w hw. sound-bind (sound-times (sound-place cols) g) (λ gs hs. sound-bind (sound-condition (openItems cols)) (λ v hv.
+      sound-bind (sound-times (sound-expression (openItems cols)) n) (λ es h. sound-ending _
       (simp (append-assoc, h .0, hs .0)
       (ap (λ (l : List ℕ). 4 ∷ length fs ∷ (fs ++ g ∷ n ∷ l)) (sym (regroup (encodeC w) (joined (map _ gs)) (encodeC v) (joined (map encodeE es))))))
       (record {

@@ -10,7 +10,7 @@ use Rattle.value.specs.Bag.{All}
 use Rattle.value.specs.Integer.{low16, high16}
 use Rattle.value.specs.Value.{Column}
 use Rattle.meaning.specs.Syntax.{Expr, Cond, Place, View, Table, Pair, ForeignKey, File}
-use Rattle.language.specs.Reading.{InLimitsE, InLimitsC}
+use Rattle.language.specs.Reading.{Open, openItems, InLimitsE, InLimitsC}
 use Rattle.meaning.specs.Bounds.{Schema, schema, tableSchema, viewSchema, sameWidth, aggregatesFit, bounded, rangesFit}
 use Rattle.meaning.specs.Candidates.{candidates}
 use Rattle.language.specs.Frames.{exactlyKey}
@@ -77,11 +77,11 @@ pub record LegalFrom (ss : List Schema) (fs : List ℕ) : Type 0 where
 abbrev pub widths : List Schema → List ℕ → List ℕ
 widths ss fs = map (λ i. length (schema ss i .ranges)) fs
 
-pub record LegalSelect (cols : List ℕ) (es : List Expr) : Type 0 where
+pub record LegalSelect (o : Open) (es : List Expr) : Type 0 where
   -- "select count (1 to 8)"
   pub count : Limits 1 8 (length es)
   -- "the select expressions"
-  pub limits : All (InLimitsE cols) es
+  pub limits : All (InLimitsE o) es
 
 -- a grouping column that is there: "(from item, column)"
 pub record LegalPlace (cols : List ℕ) (p : Place) : Type 0 where
@@ -91,8 +91,8 @@ pub record LegalPlace (cols : List ℕ) (p : Place) : Type 0 where
 pub record LegalBasic (ss : List Schema) (fs : List ℕ) (w : Cond) (es : List Expr) : Type 0 where
   pub relations : LegalFrom ss fs
   -- "a where condition"
-  pub condition : InLimitsC (widths ss fs) w
-  pub select : LegalSelect (widths ss fs) es
+  pub condition : InLimitsC (openItems (widths ss fs)) w
+  pub select : LegalSelect (openItems (widths ss fs)) es
 
 pub record LegalGrouped (ss : List Schema) (fs : List ℕ) (w : Cond) (gs : List Place) (h : Cond) (es : List Expr) : Type 0 where
   -- "from count and relations as in 03"
@@ -100,12 +100,12 @@ pub record LegalGrouped (ss : List Schema) (fs : List ℕ) (w : Cond) (gs : List
   -- "grouping count (0 to 4)"
   pub count : Limits 0 4 (length gs)
   -- "where"
-  pub condition : InLimitsC (widths ss fs) w
+  pub condition : InLimitsC (openItems (widths ss fs)) w
   -- "the grouping columns"
   pub grouping : All (LegalPlace (widths ss fs)) gs
   -- "having"
-  pub having : InLimitsC (widths ss fs) h
-  pub select : LegalSelect (widths ss fs) es
+  pub having : InLimitsC (openItems (widths ss fs)) h
+  pub select : LegalSelect (openItems (widths ss fs)) es
 
 -- relation i is a view: behind t tables and before relation r
 pub record NamesView (t r i : ℕ) : Type 0 where

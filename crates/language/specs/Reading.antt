@@ -64,15 +64,23 @@ choose (entry ∷ more) t = either (eqb t (entry .0)) (entry .1) (choose more t)
 abbrev pub step : Reader ℕ
 step = twoBytes >>= λ m. either (leb 1 m && leb m 1000) (done m) (refuse 5)
 
+-- the from items that are open where an expression stands
+pub record Open : Type 0 where
+  -- the number of columns of each
+  pub widths : List ℕ
+
+abbrev pub openItems : List ℕ → Open
+openItems ws = record { widths = ws }
+
 -- "01 from item, column", each of which must be there, else 6; `cols` has each from item's number of columns
 abbrev pub place : List ℕ → Reader Expr
 place cols = byteIf 6 (λ i. ltb i (length cols)) >>= λ i. byteIf 6 (λ c. ltb c (getD cols i 0)) >>= λ c. done (Expr.column i c)
 
 -- what stands behind each expression token, given how expressions and conditions are read
-abbrev pub expressions : List ℕ → Reader Expr → Reader Cond → List (ℕ × Reader Expr)
-expressions cols e c =
+abbrev pub expressions : Open → Reader Expr → Reader Cond → List (ℕ × Reader Expr)
+expressions o e c =
     (0x00, (byte >>= λ h. byte >>= λ l. done (Expr.constant (bytesZ h l))))
-    ∷ (0x01, place cols)
+    ∷ (0x01, place (o .widths))
     ∷ (0x02, (e >>= λ a. e >>= λ b. done (Expr.operation Operation.sum a b)))
     ∷ (0x03, (e >>= λ a. e >>= λ b. done (Expr.operation Operation.difference a b)))
     ∷ (0x04, (e >>= λ a. e >>= λ b. done (Expr.operation Operation.product a b)))
@@ -93,34 +101,33 @@ conditions e c =
     ∷ []
 
 -- ---- expressions and conditions: no tree is deeper than its bytes are many, so as deep as the bytes go is deep enough
-module _ (cols : List ℕ) where
-  unfoldable mutual
-    pub deepE : ℕ → Reader Expr
-    deepE zero = refuse 4
-    deepE (suc n) = byte >>= choose (expressions cols (deepE n) (deepC n))
+unfoldable mutual
+  pub deepE : Open → ℕ → Reader Expr
+  deepE o zero = refuse 4
+  deepE o (suc n) = byte >>= choose (expressions o (deepE o n) (deepC o n))
 
-    pub deepC : ℕ → Reader Cond
-    deepC zero = refuse 4
-    deepC (suc n) = byte >>= choose (conditions (deepE n) (deepC n))
+  pub deepC : Open → ℕ → Reader Cond
+  deepC o zero = refuse 4
+  deepC o (suc n) = byte >>= choose (conditions (deepE o n) (deepC o n))
 
-  unfoldable pub readE : Reader Expr
-  readE bs = deepE (length bs) bs
+unfoldable pub readE : Open → Reader Expr
+readE o bs = deepE o (length bs) bs
 
-  unfoldable pub readC : Reader Cond
-  readC bs = deepC (length bs) bs
+unfoldable pub readC : Open → Reader Cond
+readC o bs = deepC o (length bs) bs
 
-  -- the trees that bytes can stand for: constants of 16 bits, steps in their limits, and columns that are there
-  unfoldable mutual
-    pub InLimitsE : Expr → Type 0
-    InLimitsE (Expr.constant z) = (low16 ≤ℤ z) × (z ≤ℤ high16)
-    InLimitsE (Expr.column i c) = (i < length cols) × (c < getD cols i 0)
-    InLimitsE (Expr.operation op a b) = InLimitsE a × InLimitsE b
-    InLimitsE (Expr.rounding m a) = (1 ≤ m) × (m ≤ 1000) × InLimitsE a
-    InLimitsE (Expr.choice c a b) = InLimitsC c × InLimitsE a × InLimitsE b
-    InLimitsE (Expr.aggregate op a) = InLimitsE a
+-- the trees that bytes can stand for: constants of 16 bits, steps in their limits, and columns that are there
+unfoldable mutual
+  pub InLimitsE : Open → Expr → Type 0
+  InLimitsE o (Expr.constant z) = (low16 ≤ℤ z) × (z ≤ℤ high16)
+  InLimitsE o (Expr.column i c) = (i < length (o .widths)) × (c < getD (o .widths) i 0)
+  InLimitsE o (Expr.operation op a b) = InLimitsE o a × InLimitsE o b
+  InLimitsE o (Expr.rounding m a) = (1 ≤ m) × (m ≤ 1000) × InLimitsE o a
+  InLimitsE o (Expr.choice c a b) = InLimitsC o c × InLimitsE o a × InLimitsE o b
+  InLimitsE o (Expr.aggregate op a) = InLimitsE o a
 
-    pub InLimitsC : Cond → Type 0
-    InLimitsC Cond.always = Unit {0}
-    InLimitsC (Cond.comparison op a b) = InLimitsE a × InLimitsE b
-    InLimitsC (Cond.negated c) = InLimitsC c
-    InLimitsC (Cond.connection op c d) = InLimitsC c × InLimitsC d
+  pub InLimitsC : Open → Cond → Type 0
+  InLimitsC o Cond.always = Unit {0}
+  InLimitsC o (Cond.comparison op a b) = InLimitsE o a × InLimitsE o b
+  InLimitsC o (Cond.negated c) = InLimitsC o c
+  InLimitsC o (Cond.connection op c d) = InLimitsC o c × InLimitsC o d

@@ -9,7 +9,7 @@ use lib.ListN.{getD}
 use Rattle.value.specs.Bag.{Same, Test, count, tick}
 use Rattle.value.proofs.Decides.{and-parts, by-test}
 use Rattle.meaning.specs.Algebra.{Bag, Groups, IsGroup, IsGrouping, IsProduct, IsProjection, IsSelection, IsSet, Means, groupCount, multiplicity, over, crossCount}
-use Rattle.meaning.specs.Bounds.{aggregatesFit, allowedC, allowedE, anyColumn, groupingColumn}
+use Rattle.meaning.specs.Bounds.{aggregatesFit, allowedC, allowedE, groupingColumn, inBasic, inGrouped, inWhere}
 use Rattle.meaning.specs.Evaluation.{cell, combinationTest, keyOf, rowTest, satisfies}
 use Rattle.meaning.specs.Lists.{all, combinations, gate, keep, pairs}
 use Rattle.meaning.specs.Rows.{kept, groupKeys, members, relations, rowsOf, setRows, spread, together}
@@ -95,7 +95,7 @@ module _ {M M′ : ℕ → Bag} (h : (i : ℕ) → Same rowTest (M i) (M′ i)) 
   -- the scopes of one group, whichever lists and members stand for it
   group-alike : {gs : List Place} {S S′ : List Combination} {k : Row} {G G′ : List Combination} {m m′ : Combination} → Same combinationTest S S′
       → IsGroup gs S k G → 0 < count combinationTest m G → IsGroup gs S′ k G′ → 0 < count combinationTest m′ G′
-      → Alike (groupingColumn gs) (over M G m) (over M′ G′ m′)
+      → Alike (inGrouped gs) (over M G m) (over M′ G′ m′)
   group-alike {m = m} {m′ = m′} e g l g′ l′ = record { relations = h; items = λ i c t. member-cell g m l i c t ∙ sym (member-cell g′ m′ l′ i c t); group = group-one e g g′ }
 
   times-one : (fs : List ℕ) (m : Combination) → crossCount (map M fs) m ≡ crossCount (map M′ fs) m
@@ -110,17 +110,17 @@ module _ {M M′ : ℕ → Bag} (h : (i : ℕ) → Same rowTest (M i) (M′ i)) 
   pub answer-one : (q : View) → aggregatesFit [] q ≡ true → {B B′ : Bag} → Means M q B → Means M′ q B′ → Same rowTest B B′
   unfolding Means
   answer-one (View.basic fs w ss) t (P, S, p, s, b) (P′, S′, p′, s′, b′) =
-      let (tw, ts) = and-parts (allowedC anyColumn false w) (all (allowedE anyColumn false) ss) t in
-      let hS = selection-one (product-one fs p p′) (selection-where (λ m l. satisfies-alike false (alone-alike h m) w tw) s) s′ in
-      projection-one hS (projection-where combinationTest (λ m l. selected-alike false (alone-alike h m) ss ts) b) b′
+      let (tw, ts) = and-parts (allowedC inWhere w) (all (allowedE inBasic) ss) t in
+      let hS = selection-one (product-one fs p p′) (selection-where (λ m l. satisfies-alike inWhere (alone-alike h m) w tw) s) s′ in
+      projection-one hS (projection-where combinationTest (λ m l. selected-alike inBasic (alone-alike h m) ss ts) b) b′
   answer-one (View.grouped fs w gs c ss) t (P, S, G, H, group, member, p, s, g, r, k, b) (P′, S′, G′, H′, group′, member′, p′, s′, g′, r′, k′, b′) =
       let f = group-fits w gs c ss t in
-      let hS = selection-one (product-one fs p p′) (selection-where (λ m l. satisfies-alike false (alone-alike h m) w (f .condition)) s) s′ in
+      let hS = selection-one (product-one fs p p′) (selection-where (λ m l. satisfies-alike inWhere (alone-alike h m) w (f .condition)) s) s′ in
       let hG = grouping-one hS g g′ in
-      let same : (x : Row) → 0 < count rowTest x G → Alike (groupingColumn gs) (over M (group x) (member x)) (over M′ (group′ x) (member′ x)) =
+      let same : (x : Row) → 0 < count rowTest x G → Alike (inGrouped gs) (over M (group x) (member x)) (over M′ (group′ x) (member′ x)) =
       λ x l. let l′ = rw (hG .at x) at l in group-alike hS (r .group-of x l) (r .member-of x l) (r′ .group-of x l′) (r′ .member-of x l′) in
-      let hH = selection-one hG (selection-where (λ x l. satisfies-alike true (same x l) c (f .having)) k) k′ in
-      projection-one hH (projection-where rowTest (λ x l. selected-alike true (same x (selection-of k x l)) ss (f .select)) b) b′
+      let hH = selection-one hG (selection-where (λ x l. satisfies-alike (inGrouped gs) (same x l) c (f .having)) k) k′ in
+      projection-one hH (projection-where rowTest (λ x l. selected-alike (inGrouped gs) (same x (selection-of k x l)) ss (f .select)) b) b′
   answer-one (View.set op i j) t b b′ = record { at = λ μ. b .at μ ∙ ap₂ (multiplicity op) (h i .at μ) (h j .at μ) ∙ sym (b′ .at μ) }
 
 -- ---- the ordered operations are the algebra's
@@ -156,7 +156,7 @@ groups-sound gs R = record {
 
 -- the scope of a group, by its grouping values and by its first member
 together-alike : (M : ℕ → Bag) (gs : List Place) (R : List Combination) (k : Row) → 0 < count rowTest k (groupKeys gs R)
-    → Alike (groupingColumn gs) (together M gs R k) (over M (members gs R k) (leader gs R k))
+    → Alike (inGrouped gs) (together M gs R k) (over M (members gs R k) (leader gs R k))
 together-alike M gs R k l = record {
   relations = λ i. same-refl;
   items = λ i c t. sym (member-cell (group-sound gs R k) (leader gs R k) (groups-sound gs R .member-of k l) i c t);
@@ -187,8 +187,8 @@ answer-rows M (View.grouped fs w gs c ss) t =
       selection-sound combinationTest _ _,
       grouping-sound gs S,
       groups-sound gs S,
-      selection-where (λ x l. satisfies-alike true (together-alike M gs S x l) c (f .having)) k,
-      projection-where rowTest (λ x l. selected-alike true (together-alike M gs S x (selection-of k x l)) ss (f .select)) (projection-sound _ _),
+      selection-where (λ x l. satisfies-alike (inGrouped gs) (together-alike M gs S x l) c (f .having)) k,
+      projection-where rowTest (λ x l. selected-alike (inGrouped gs) (together-alike M gs S x (selection-of k x l)) ss (f .select)) (projection-sound _ _),
     )
 answer-rows M (View.set op i j) t = set-sound op (M i) (M j)
 

@@ -1,6 +1,6 @@
 -- "Every expression has a range": its value lies in it, and where every range inside it lies within 32 bits, so does every result on the
 -- way. Assumes nothing.
-use mathlib.Core.Path.{_≡_, sym}
+use mathlib.Core.Path.{_≡_, refl, sym, _∙_}
 use mathlib.Core.Bool.{Bool, true, false, _&&_, cond, true≢false}
 use mathlib.Core.List.{List, [], _∷_, map}
 use Prim.Native.Nat.{ℕ, _≤_, _<_}
@@ -23,7 +23,7 @@ use Rattle.range.proofs.Bits32.{inside-held}
 use Rattle.meaning.specs.Lists.{Each, all}
 use Rattle.meaning.specs.Syntax.{Expr, Cond, Row, Combination}
 use Rattle.meaning.specs.Evaluation.{Scope, alone, cell, value, truth, selected}
-use Rattle.meaning.specs.Bounds.{range, withinE, withinC, allowedE, allowedC, anyColumn}
+use Rattle.meaning.specs.Bounds.{OpenRanges, range, withinE, withinC, Permitted, insideAggregate, allowedE, allowedC}
 use Rattle.meaning.specs.Clear.{ClearE, ClearC}
 use Rattle.meaning.proofs.Elements.{all-test, all-both, all-image, all-take, each-images}
 
@@ -46,123 +46,122 @@ tally-held r e i =
 
 -- ---- what a scope must give
 
-module _ (I : List (List Range)) where
+module _ (o : OpenRanges) where
   -- every column lies in its range; one that is not there too
   pub record Covered (m : Combination) : Type 0 where
-    pub at : (i c : ℕ) → Inside (getD (getD I i []) c (constantOf (pos 0))) (cell m i c)
+    pub at : (i c : ℕ) → Inside (getD (getD (o .ranges) i []) c (constantOf (pos 0))) (cell m i c)
 
-  module _ (R : ℕ) where
-    -- a group with a member, of no more members than the row bound
-    pub record GroupCovered (g : List Combination) : Type 0 where
-      pub member : 0 < length g
-      pub size : length g ≤ R
-      pub columns : All Covered g
+  -- a group with a member, of no more members than the row bound
+  pub record GroupCovered (g : List Combination) : Type 0 where
+    pub member : 0 < length g
+    pub size : length g ≤ o .bound
+    pub columns : All Covered g
 
-    -- the columns that may stand outside aggregates lie in their ranges, and where aggregates may stand there is a group
-    pub record ScopeCovered (columns : ℕ → ℕ → Bool) (aggregates : Bool) (s : Scope) : Type 0 where
-      pub items : (i c : ℕ) → columns i c ≡ true → Inside (getD (getD I i []) c (constantOf (pos 0))) (cell (s .items) i c)
-      pub group : aggregates ≡ true → GroupCovered (s .group)
+  -- the columns that may stand outside aggregates lie in their ranges, and where aggregates may stand there is a group
+  pub record ScopeCovered (P : Permitted) (s : Scope) : Type 0 where
+    pub items : (i c : ℕ) → P .columns i c ≡ true → Inside (getD (getD (o .ranges) i []) c (constantOf (pos 0))) (cell (s .items) i c)
+    pub group : P .aggregates ≡ true → GroupCovered (s .group)
 
-module _ (I : List (List Range)) (R : ℕ) where
+module _ (o : OpenRanges) where
   -- one combination, outside aggregates
-  pub alone-covered : (M : ℕ → List Row) (m : Combination) → Covered I m → ScopeCovered I R anyColumn false (alone M m)
-  alone-covered M m h = record { items = λ i c e. h .at i c; group = λ e. absurd (true≢false (sym e)) }
+  pub alone-covered : (P : Permitted) → P .aggregates ≡ false → (M : ℕ → List Row) (m : Combination) → Covered o m → ScopeCovered o P (alone M m)
+  alone-covered P n M m h = record { items = λ i c e. h .at i c; group = λ e. absurd (true≢false (sym e ∙ n)) }
 
   -- ---- the value lies in the range
 
-  pub value-inside : (columns : ℕ → ℕ → Bool) (aggregates : Bool) (s : Scope) → ScopeCovered I R columns aggregates s
-      → (e : Expr) → allowedE columns aggregates e ≡ true → Inside (range I R e) (value s e)
-  value-inside cs ag s h (Expr.constant z) a = constant-inside z
-  value-inside cs ag s h (Expr.column i c) a = h .items i c a
-  value-inside cs ag s h (Expr.operation op x y) a =
-      let (p, q) = and-parts (allowedE cs ag x) (allowedE cs ag y) a in
-      operated-inside op {a = range I R x} {b = range I R y} (value-inside cs ag s h x p) (value-inside cs ag s h y q)
-  value-inside cs ag s h (Expr.rounding m x) a = rounded-inside {a = range I R x} (value-inside cs ag s h x a) m
-  value-inside cs ag s h (Expr.choice c x y) a =
-      let (p, q) = and-parts (allowedC cs ag c) (allowedE cs ag x && allowedE cs ag y) a in
-      let (t, u) = and-parts (allowedE cs ag x) (allowedE cs ag y) q in
-      cond-inside (holds (truth s c)) {a = range I R x} {b = range I R y} (value-inside cs ag s h x t) (value-inside cs ag s h y u)
-  value-inside cs ag s h (Expr.aggregate op x) a =
-      let (p, q) = and-parts ag (allowedE anyColumn false x) a in
+  pub value-inside : (P : Permitted) (s : Scope) → ScopeCovered o P s
+      → (e : Expr) → allowedE P e ≡ true → Inside (range o e) (value s e)
+  value-inside P s h (Expr.constant z) a = constant-inside z
+  value-inside P s h (Expr.column i c) a = h .items i c a
+  value-inside P s h (Expr.operation op x y) a =
+      let (p, q) = and-parts (allowedE P x) (allowedE P y) a in
+      operated-inside op {a = range o x} {b = range o y} (value-inside P s h x p) (value-inside P s h y q)
+  value-inside P s h (Expr.rounding m x) a = rounded-inside {a = range o x} (value-inside P s h x a) m
+  value-inside P s h (Expr.choice c x y) a =
+      let (p, q) = and-parts (allowedC P c) (allowedE P x && allowedE P y) a in
+      let (t, u) = and-parts (allowedE P x) (allowedE P y) q in
+      cond-inside (holds (truth s c)) {a = range o x} {b = range o y} (value-inside P s h x t) (value-inside P s h y u)
+  value-inside P s h (Expr.aggregate op x) a =
+      let (p, q) = and-parts (P .aggregates) (allowedE insideAggregate x) a in
       let g = h .group p in
       let f : Combination → Value = λ m. value (alone (s .relations) m) x in
-      total-inside op R (range I R x) (rw (length-map (s .group) f) (g .member)) (rw (length-map (s .group) f) (g .size))
-      (all-image f (λ m k. value-inside anyColumn false (alone (s .relations) m) (alone-covered (s .relations) m k) x q) (g .columns))
+      total-inside op (o .bound) (range o x) (rw (length-map (s .group) f) (g .member)) (rw (length-map (s .group) f) (g .size))
+      (all-image f (λ m k. value-inside insideAggregate (alone (s .relations) m) (alone-covered insideAggregate refl (s .relations) m k) x q) (g .columns))
 
   -- ---- 32 bits hold every result on the way
 
   -- the value itself is held
-  pub value-held : (columns : ℕ → ℕ → Bool) (aggregates : Bool) (s : Scope) → ScopeCovered I R columns aggregates s
-      → (e : Expr) → allowedE columns aggregates e ≡ true → withinE I R e ≡ true → Held (value s e)
-  value-held cs ag s h (Expr.constant z) a w = inside-held {r = constantOf z} w (constant-inside z)
-  value-held cs ag s h (Expr.column i c) a w = inside-held {r = range I R (Expr.column i c)} w (value-inside cs ag s h (Expr.column i c) a)
-  value-held cs ag s h (Expr.operation op x y) a w =
+  pub value-held : (P : Permitted) (s : Scope) → ScopeCovered o P s
+      → (e : Expr) → allowedE P e ≡ true → withinE o e ≡ true → Held (value s e)
+  value-held P s h (Expr.constant z) a w = inside-held {r = constantOf z} w (constant-inside z)
+  value-held P s h (Expr.column i c) a w = inside-held {r = range o (Expr.column i c)} w (value-inside P s h (Expr.column i c) a)
+  value-held P s h (Expr.operation op x y) a w =
       let e = Expr.operation op x y in
-      inside-held {r = range I R e} (and-parts (within32 (range I R e)) (withinE I R x && withinE I R y) w .0) (value-inside cs ag s h e a)
-  value-held cs ag s h (Expr.rounding m x) a w =
+      inside-held {r = range o e} (and-parts (within32 (range o e)) (withinE o x && withinE o y) w .0) (value-inside P s h e a)
+  value-held P s h (Expr.rounding m x) a w =
       let e = Expr.rounding m x in
-      inside-held {r = range I R e} (and-parts (within32 (range I R e)) (withinE I R x) w .0) (value-inside cs ag s h e a)
-  value-held cs ag s h (Expr.choice c x y) a w =
-      let (p, q) = and-parts (allowedC cs ag c) (allowedE cs ag x && allowedE cs ag y) a in
-      let (t, u) = and-parts (allowedE cs ag x) (allowedE cs ag y) q in
-      let (b, d) = and-parts (withinC I R c) (withinE I R x && withinE I R y) w in
-      let (j, k) = and-parts (withinE I R x) (withinE I R y) d in
-      by-test (holds (truth s c)) (λ z. rw z (value-held cs ag s h x t j)) (λ z. rw z (value-held cs ag s h y u k))
-  value-held cs ag s h (Expr.aggregate op x) a w =
+      inside-held {r = range o e} (and-parts (within32 (range o e)) (withinE o x) w .0) (value-inside P s h e a)
+  value-held P s h (Expr.choice c x y) a w =
+      let (p, q) = and-parts (allowedC P c) (allowedE P x && allowedE P y) a in
+      let (t, u) = and-parts (allowedE P x) (allowedE P y) q in
+      let (b, d) = and-parts (withinC o c) (withinE o x && withinE o y) w in
+      let (j, k) = and-parts (withinE o x) (withinE o y) d in
+      by-test (holds (truth s c)) (λ z. rw z (value-held P s h x t j)) (λ z. rw z (value-held P s h y u k))
+  value-held P s h (Expr.aggregate op x) a w =
       let e = Expr.aggregate op x in
-      inside-held {r = range I R e} (and-parts (within32 (range I R e)) (withinE I R x) w .0) (value-inside cs ag s h e a)
+      inside-held {r = range o e} (and-parts (within32 (range o e)) (withinE o x) w .0) (value-inside P s h e a)
 
   mutual
-    pub clear-expression : (columns : ℕ → ℕ → Bool) (aggregates : Bool) (s : Scope) → ScopeCovered I R columns aggregates s
-        → (e : Expr) → allowedE columns aggregates e ≡ true → withinE I R e ≡ true → ClearE s e
-    clear-expression cs ag s h (Expr.constant z) a w = tt
-    clear-expression cs ag s h (Expr.column i c) a w = tt
-    clear-expression cs ag s h (Expr.operation op x y) a w =
-        let (p, q) = and-parts (allowedE cs ag x) (allowedE cs ag y) a in
-        let (r, d) = and-parts (within32 (range I R (Expr.operation op x y))) (withinE I R x && withinE I R y) w in
-        let (j, k) = and-parts (withinE I R x) (withinE I R y) d in
-        (clear-expression cs ag s h x p j, clear-expression cs ag s h y q k, value-held cs ag s h (Expr.operation op x y) a w)
-    clear-expression cs ag s h (Expr.rounding m x) a w =
-        let (r, j) = and-parts (within32 (range I R (Expr.rounding m x))) (withinE I R x) w in
-        (clear-expression cs ag s h x a j, value-held cs ag s h (Expr.rounding m x) a w)
-    clear-expression cs ag s h (Expr.choice c x y) a w =
-        let (p, q) = and-parts (allowedC cs ag c) (allowedE cs ag x && allowedE cs ag y) a in
-        let (t, u) = and-parts (allowedE cs ag x) (allowedE cs ag y) q in
-        let (b, d) = and-parts (withinC I R c) (withinE I R x && withinE I R y) w in
-        let (j, k) = and-parts (withinE I R x) (withinE I R y) d in
-        (clear-condition cs ag s h c p b, clear-expression cs ag s h x t j, clear-expression cs ag s h y u k)
-    clear-expression cs ag s h (Expr.aggregate op x) a w =
-        let (p, q) = and-parts ag (allowedE anyColumn false x) a in
-        let (r, j) = and-parts (within32 (range I R (Expr.aggregate op x))) (withinE I R x) w in
+    pub clear-expression : (P : Permitted) (s : Scope) → ScopeCovered o P s
+        → (e : Expr) → allowedE P e ≡ true → withinE o e ≡ true → ClearE s e
+    clear-expression P s h (Expr.constant z) a w = tt
+    clear-expression P s h (Expr.column i c) a w = tt
+    clear-expression P s h (Expr.operation op x y) a w =
+        let (p, q) = and-parts (allowedE P x) (allowedE P y) a in
+        let (r, d) = and-parts (within32 (range o (Expr.operation op x y))) (withinE o x && withinE o y) w in
+        let (j, k) = and-parts (withinE o x) (withinE o y) d in
+        (clear-expression P s h x p j, clear-expression P s h y q k, value-held P s h (Expr.operation op x y) a w)
+    clear-expression P s h (Expr.rounding m x) a w =
+        let (r, j) = and-parts (within32 (range o (Expr.rounding m x))) (withinE o x) w in
+        (clear-expression P s h x a j, value-held P s h (Expr.rounding m x) a w)
+    clear-expression P s h (Expr.choice c x y) a w =
+        let (p, q) = and-parts (allowedC P c) (allowedE P x && allowedE P y) a in
+        let (t, u) = and-parts (allowedE P x) (allowedE P y) q in
+        let (b, d) = and-parts (withinC o c) (withinE o x && withinE o y) w in
+        let (j, k) = and-parts (withinE o x) (withinE o y) d in
+        (clear-condition P s h c p b, clear-expression P s h x t j, clear-expression P s h y u k)
+    clear-expression P s h (Expr.aggregate op x) a w =
+        let (p, q) = and-parts (P .aggregates) (allowedE insideAggregate x) a in
+        let (r, j) = and-parts (within32 (range o (Expr.aggregate op x))) (withinE o x) w in
         let g = h .group p in
         let f : Combination → Value = λ m. value (alone (s .relations) m) x in
-        let is : All (Inside (range I R x)) (map f (s .group)) =
-        all-image f (λ m k. value-inside anyColumn false (alone (s .relations) m) (alone-covered (s .relations) m k) x q) (g .columns) in (
-          all-map (λ m k. clear-expression anyColumn false (alone (s .relations) m) (alone-covered (s .relations) m k) x q j) (g .columns),
-          λ n. tally-held (range I R (Expr.aggregate op x)) r
-              (aggregated-tally op R (range I R x) (rw (length-take n (map f (s .group)), length-map (s .group) f) (omega (arith, g .size))) (all-take n is)),
+        let is : All (Inside (range o x)) (map f (s .group)) =
+        all-image f (λ m k. value-inside insideAggregate (alone (s .relations) m) (alone-covered insideAggregate refl (s .relations) m k) x q) (g .columns) in (
+          all-map (λ m k. clear-expression insideAggregate (alone (s .relations) m) (alone-covered insideAggregate refl (s .relations) m k) x q j) (g .columns),
+          λ n. tally-held (range o (Expr.aggregate op x)) r
+              (aggregated-tally op (o .bound) (range o x) (rw (length-take n (map f (s .group)), length-map (s .group) f) (omega (arith, g .size))) (all-take n is)),
         )
 
-    pub clear-condition : (columns : ℕ → ℕ → Bool) (aggregates : Bool) (s : Scope) → ScopeCovered I R columns aggregates s
-        → (c : Cond) → allowedC columns aggregates c ≡ true → withinC I R c ≡ true → ClearC s c
-    clear-condition cs ag s h Cond.always a w = tt
-    clear-condition cs ag s h (Cond.comparison op x y) a w =
-        let (p, q) = and-parts (allowedE cs ag x) (allowedE cs ag y) a in
-        let (j, k) = and-parts (withinE I R x) (withinE I R y) w in
-        (clear-expression cs ag s h x p j, clear-expression cs ag s h y q k)
-    clear-condition cs ag s h (Cond.negated c) a w = clear-condition cs ag s h c a w
-    clear-condition cs ag s h (Cond.connection op c d) a w =
-        let (p, q) = and-parts (allowedC cs ag c) (allowedC cs ag d) a in
-        let (j, k) = and-parts (withinC I R c) (withinC I R d) w in
-        (clear-condition cs ag s h c p j, clear-condition cs ag s h d q k)
+    pub clear-condition : (P : Permitted) (s : Scope) → ScopeCovered o P s
+        → (c : Cond) → allowedC P c ≡ true → withinC o c ≡ true → ClearC s c
+    clear-condition P s h Cond.always a w = tt
+    clear-condition P s h (Cond.comparison op x y) a w =
+        let (p, q) = and-parts (allowedE P x) (allowedE P y) a in
+        let (j, k) = and-parts (withinE o x) (withinE o y) w in
+        (clear-expression P s h x p j, clear-expression P s h y q k)
+    clear-condition P s h (Cond.negated c) a w = clear-condition P s h c a w
+    clear-condition P s h (Cond.connection op c d) a w =
+        let (p, q) = and-parts (allowedC P c) (allowedC P d) a in
+        let (j, k) = and-parts (withinC o c) (withinC o d) w in
+        (clear-condition P s h c p j, clear-condition P s h d q k)
 
   -- ---- a select list
 
-  module _ (columns : ℕ → ℕ → Bool) (aggregates : Bool) (s : Scope) (h : ScopeCovered I R columns aggregates s)
-      (es : List Expr) (a : all (allowedE columns aggregates) es ≡ true) where
-    pub selected-inside : Each Inside (map (range I R) es) (selected es s)
-    selected-inside = each-images (range I R) (value s) (all-map (value-inside columns aggregates s h) (all-test (allowedE columns aggregates) es a))
+  module _ (P : Permitted) (s : Scope) (h : ScopeCovered o P s)
+      (es : List Expr) (a : all (allowedE P) es ≡ true) where
+    pub selected-inside : Each Inside (map (range o) es) (selected es s)
+    selected-inside = each-images (range o) (value s) (all-map (value-inside P s h) (all-test (allowedE P) es a))
 
-    pub selected-clear : all (withinE I R) es ≡ true → All (ClearE s) es
-    selected-clear w = all-map (λ e p. clear-expression columns aggregates s h e (p .0) (p .1))
-        (all-both (all-test (allowedE columns aggregates) es a) (all-test (withinE I R) es w))
+    pub selected-clear : all (withinE o) es ≡ true → All (ClearE s) es
+    selected-clear w = all-map (λ e p. clear-expression P s h e (p .0) (p .1))
+        (all-both (all-test (allowedE P) es a) (all-test (withinE o) es w))

@@ -1,7 +1,7 @@
 -- One view over relations that lie in their bounds: its rows lie in its bounds, and 32 bits hold every result inside its expressions.
 -- Assumes nothing.
-use mathlib.Core.Path.{_≡_}
-use mathlib.Core.Bool.{Bool, true, false, _&&_}
+use mathlib.Core.Path.{_≡_, refl}
+use mathlib.Core.Bool.{Bool, true, _&&_}
 use mathlib.Core.List.{List, [], _∷_, map}
 use Prim.Native.Nat.{ℕ, _≤_}
 use native.Mathlib.Omega.{arith}
@@ -17,7 +17,7 @@ use Rattle.meaning.specs.Lists.{Any, Each, all, keep, combinations}
 use Rattle.meaning.specs.Syntax.{Expr, Cond, SetOperation, View, Place, Row, Combination}
 use Rattle.meaning.specs.Evaluation.{rowTest, missing, alone, satisfies, selected, keyOf}
 use Rattle.meaning.specs.Rows.{groupKeys, together, kept, rowsOf}
-use Rattle.meaning.specs.Bounds.{Schema, schema, itemRanges, productBound, withinE, withinC, hulls, viewSchema, names, sameWidth, allowedE, allowedC, anyColumn, groupingColumn, aggregatesFit, rangesFit}
+use Rattle.meaning.specs.Bounds.{Schema, schema, productBound, openRanges, withinE, withinC, hulls, viewSchema, names, sameWidth, inWhere, inBasic, inGrouped, allowedE, allowedC, aggregatesFit, rangesFit}
 use Rattle.meaning.specs.Clear.{BasicClear, Chosen, GroupedClear, ViewClear, InBounds}
 use Rattle.meaning.proofs.Elements.{all-image, all-append, all-keep, all-common, all-self, all-from, any-all, each-at, each-images, all-combinations}
 use Rattle.meaning.proofs.Sizes.{combinations-bound, length-keep, length-firsts, length-common}
@@ -91,7 +91,7 @@ module _ (ss : List Schema) (M : ℕ → List Row) where
     sizes : All (λ i. length (M i) ≤ schema ss i .bound) fs
     sizes = all-map (λ i b. b .size) named
 
-    pub combinations-covered : All (Covered (itemRanges ss fs)) (combinations (map M fs))
+    pub combinations-covered : All (Covered (openRanges ss fs)) (combinations (map M fs))
     combinations-covered = all-map
         (λ m e. record { at = λ i c. each-at {P = Inside} (constantOf (pos 0)) missing (constant-inside (pos 0)) (each-at {P = Each Inside} [] [] Each.nil e i) c })
         (all-combinations (each-images (λ i. schema ss i .ranges) M (all-map (λ i b. b .values) named)))
@@ -101,7 +101,7 @@ module _ (ss : List Schema) (M : ℕ → List Row) where
 
     -- the scope of a group of whichever combinations are kept
     module _ (gs : List Place) {S : List Combination} (chosen : Chosen (combinations (map M fs)) S) (k : Row) (some-member : Any (λ m. k ≡ keyOf gs m) S) where
-      pub together-covered : ScopeCovered (itemRanges ss fs) (productBound ss fs) (groupingColumn gs) true (together M gs S k)
+      pub together-covered : ScopeCovered (openRanges ss fs) (inGrouped gs) (together M gs S k)
       together-covered =
           let covered = all-from combinations-covered (chosen .from) in
           let same : Combination → Bool = λ m. rowTest .same k (keyOf gs m) in
@@ -117,18 +117,16 @@ module _ (ss : List Schema) (M : ℕ → List Row) where
   -- each value lies in its column's range
   pub view-values : (q : View) → Named (names q) → sameWidth ss q ≡ true → aggregatesFit ss q ≡ true → All (Each Inside (viewSchema ss q .ranges)) (rowsOf M q)
   view-values (View.basic fs w es) n s a =
-      let I = itemRanges ss fs in
-      let R = productBound ss fs in
-      let (b, c) = and-parts (allowedC anyColumn false w) (all (allowedE anyColumn false) es) a in
-      all-image (λ m. selected es (alone M m)) (λ m h. selected-inside I R anyColumn false (alone M m) (alone-covered I R M m h) es c)
+      let o = openRanges ss fs in
+      let (b, c) = and-parts (allowedC inWhere w) (all (allowedE inBasic) es) a in
+      all-image (λ m. selected es (alone M m)) (λ m h. selected-inside o inBasic (alone M m) (alone-covered o inBasic refl M m h) es c)
       (all-keep (λ m. satisfies w (alone M m)) (combinations-covered n))
   view-values (View.grouped fs w gs h es) n s a =
-      let I = itemRanges ss fs in
-      let R = productBound ss fs in
+      let o = openRanges ss fs in
       let S = kept M fs w in
       let chosen = keep-chosen (λ m. satisfies w (alone M m)) (combinations (map M fs)) in
       all-image (λ k. selected es (together M gs S k))
-      (λ k m. selected-inside I R (groupingColumn gs) true (together M gs S k) (together-covered n gs chosen k m) es (group-fits w gs h es a .select))
+      (λ k m. selected-inside o (inGrouped gs) (together M gs S k) (together-covered n gs chosen k m) es (group-fits w gs h es a .select))
       (all-keep (λ k. satisfies h (together M gs S k)) (key-members gs S))
   view-values (View.set SetOperation.union i j) (All.cons l (All.cons r All.nil)) s a =
       let e = dec-true (eqb-dec (length (schema ss i .ranges)) (length (schema ss j .ranges))) s in
@@ -141,23 +139,21 @@ module _ (ss : List Schema) (M : ℕ → List Row) where
   -- 32 bits hold every result inside its expressions
   pub view-clear : (q : View) → Named (names q) → aggregatesFit ss q ≡ true → rangesFit ss q ≡ true → ViewClear M q
   view-clear (View.basic fs w es) n a r =
-      let I = itemRanges ss fs in
-      let R = productBound ss fs in
-      let (a₁, a₂) = and-parts (allowedC anyColumn false w) (all (allowedE anyColumn false) es) a in
-      let (r₁, r₂) = and-parts (withinC I R w) (all (withinE I R) es) r in
+      let o = openRanges ss fs in
+      let (a₁, a₂) = and-parts (allowedC inWhere w) (all (allowedE inBasic) es) a in
+      let (r₁, r₂) = and-parts (withinC o w) (all (withinE o) es) r in
       record {
-        condition = all-map (λ m h. clear-condition I R anyColumn false (alone M m) (alone-covered I R M m h) w a₁ r₁) (combinations-covered n);
-        select = all-map (λ m h. selected-clear I R anyColumn false (alone M m) (alone-covered I R M m h) es a₂ r₂) (combinations-covered n);
+        condition = all-map (λ m h. clear-condition o inWhere (alone M m) (alone-covered o inWhere refl M m h) w a₁ r₁) (combinations-covered n);
+        select = all-map (λ m h. selected-clear o inBasic (alone M m) (alone-covered o inBasic refl M m h) es a₂ r₂) (combinations-covered n);
       }
   view-clear (View.grouped fs w gs h es) n a r =
-      let I = itemRanges ss fs in
-      let R = productBound ss fs in
+      let o = openRanges ss fs in
       let f = group-fits w gs h es a in
-      let (r₁, r′) = and-parts (withinC I R w) (withinC I R h && all (withinE I R) es) r in
-      let (r₂, r₃) = and-parts (withinC I R h) (all (withinE I R) es) r′ in
+      let (r₁, r′) = and-parts (withinC o w) (withinC o h && all (withinE o) es) r in
+      let (r₂, r₃) = and-parts (withinC o h) (all (withinE o) es) r′ in
       record {
-        condition = all-map (λ m h. clear-condition I R anyColumn false (alone M m) (alone-covered I R M m h) w (f .condition) r₁) (combinations-covered n);
-        having = λ {S} x. all-map (λ k m. clear-condition I R (groupingColumn gs) true (together M gs S k) (together-covered n gs x k m) h (f .having) r₂) (key-members gs S);
-        select = λ {S} x. all-map (λ k m. selected-clear I R (groupingColumn gs) true (together M gs S k) (together-covered n gs x k m) es (f .select) r₃) (key-members gs S);
+        condition = all-map (λ m h. clear-condition o inWhere (alone M m) (alone-covered o inWhere refl M m h) w (f .condition) r₁) (combinations-covered n);
+        having = λ {S} x. all-map (λ k m. clear-condition o (inGrouped gs) (together M gs S k) (together-covered n gs x k m) h (f .having) r₂) (key-members gs S);
+        select = λ {S} x. all-map (λ k m. selected-clear o (inGrouped gs) (together M gs S k) (together-covered n gs x k m) es (f .select) r₃) (key-members gs S);
       }
   view-clear (View.set op i j) n a r = tt

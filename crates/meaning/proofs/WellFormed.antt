@@ -1,9 +1,9 @@
 -- The rules of a well-formed file, one by one. Assumes nothing.
 use mathlib.Core.Path.{_≡_}
-use mathlib.Core.Bool.{true, false}
+use mathlib.Core.Bool.{true}
 use mathlib.Core.List.{List, []}
 use Rattle.value.proofs.Decides.{and-parts}
-use Rattle.meaning.specs.Bounds.{aggregatesFit, allowedC, allowedE, anyColumn, bounded, earlier, everyView, goalNamesRelation, groupingColumn, ordered, rangesFit, sameWidth, wellFormed}
+use Rattle.meaning.specs.Bounds.{aggregatesFit, allowedC, allowedE, bounded, earlier, everyView, goalNamesRelation, inGrouped, inWhere, ordered, rangesFit, sameWidth, wellFormed}
 use Rattle.meaning.specs.Lists.{all}
 use Rattle.meaning.specs.Syntax.{Cond, Expr, File, Place, View}
 
@@ -29,12 +29,12 @@ rules F w =
 
 -- the rule on aggregates of an aggregate view, part by part
 pub record GroupFits (w : Cond) (gs : List Place) (h : Cond) (es : List Expr) : Type 0 where
-  pub condition : allowedC anyColumn false w ≡ true
-  pub having : allowedC (groupingColumn gs) true h ≡ true
-  pub select : all (allowedE (groupingColumn gs) true) es ≡ true
+  pub condition : allowedC inWhere w ≡ true
+  pub having : allowedC (inGrouped gs) h ≡ true
+  pub select : all (allowedE (inGrouped gs)) es ≡ true
 
 pub group-fits : (w : Cond) (gs : List Place) (h : Cond) (es : List Expr) → aggregatesFit [] (View.grouped [] w gs h es) ≡ true → GroupFits w gs h es
 group-fits w gs h es t =
-    let a = and-parts (allowedC anyColumn false w) _ t in
-    let b = and-parts (allowedC (groupingColumn gs) true h) _ (a .1) in
+    let a = and-parts (allowedC inWhere w) _ t in
+    let b = and-parts (allowedC (inGrouped gs) h) _ (a .1) in
     record { condition = a .0; having = b .0; select = b .1 }

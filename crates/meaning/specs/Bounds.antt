@@ -35,32 +35,42 @@ itemRanges ss fs = map (λ i. schema ss i .ranges) fs
 abbrev pub productBound : List Schema → List ℕ → ℕ
 productBound ss fs = foldr _*_ 1 (map (λ i. schema ss i .bound) fs)
 
--- ---- "Every expression has a range": over the ranges of the from items' columns and the row bound R
+-- ---- "Every expression has a range"
 
-module _ (items : List (List Range)) (R : ℕ) where
-  abbrev pub range : Expr → Range
-  range (Expr.constant z) = constantOf z
-  range (Expr.column i c) = getD (getD items i []) c (constantOf (pos 0))
-  range (Expr.operation op a b) = operatedOf op (range a) (range b)
-  range (Expr.rounding m a) = roundedOf m (range a)
-  range (Expr.choice c a b) = hullOf (range a) (range b)
-  range (Expr.aggregate op a) = aggregatedOf op R (range a)
+-- the from items that are open where an expression stands
+pub record OpenRanges : Type 0 where
+  -- the ranges of each one's columns
+  pub ranges : List (List Range)
+  -- the row bound of the view
+  pub bound : ℕ
 
-  -- "every range must lie within -2^31 to 2^31-1": of the expression itself and of every expression inside it
-  abbrev mutual
-    pub withinE : Expr → Bool
-    withinE (Expr.constant z) = within32 (constantOf z)
-    withinE (Expr.column i c) = within32 (range (Expr.column i c))
-    withinE (Expr.operation op a b) = within32 (range (Expr.operation op a b)) && (withinE a && withinE b)
-    withinE (Expr.rounding m a) = within32 (range (Expr.rounding m a)) && withinE a
-    withinE (Expr.choice c a b) = withinC c && (withinE a && withinE b)
-    withinE (Expr.aggregate op a) = within32 (range (Expr.aggregate op a)) && withinE a
+-- those of a view with this from list
+abbrev pub openRanges : List Schema → List ℕ → OpenRanges
+openRanges ss fs = record { ranges = itemRanges ss fs; bound = productBound ss fs }
 
-    pub withinC : Cond → Bool
-    withinC Cond.always = true
-    withinC (Cond.comparison op a b) = withinE a && withinE b
-    withinC (Cond.negated c) = withinC c
-    withinC (Cond.connection op c d) = withinC c && withinC d
+abbrev pub range : OpenRanges → Expr → Range
+range o (Expr.constant z) = constantOf z
+range o (Expr.column i c) = getD (getD (o .ranges) i []) c (constantOf (pos 0))
+range o (Expr.operation op a b) = operatedOf op (range o a) (range o b)
+range o (Expr.rounding m a) = roundedOf m (range o a)
+range o (Expr.choice c a b) = hullOf (range o a) (range o b)
+range o (Expr.aggregate op a) = aggregatedOf op (o .bound) (range o a)
+
+-- "every range must lie within -2^31 to 2^31-1": of the expression itself and of every expression inside it
+abbrev mutual
+  pub withinE : OpenRanges → Expr → Bool
+  withinE o (Expr.constant z) = within32 (constantOf z)
+  withinE o (Expr.column i c) = within32 (range o (Expr.column i c))
+  withinE o (Expr.operation op a b) = within32 (range o (Expr.operation op a b)) && (withinE o a && withinE o b)
+  withinE o (Expr.rounding m a) = within32 (range o (Expr.rounding m a)) && withinE o a
+  withinE o (Expr.choice c a b) = withinC o c && (withinE o a && withinE o b)
+  withinE o (Expr.aggregate op a) = within32 (range o (Expr.aggregate op a)) && withinE o a
+
+  pub withinC : OpenRanges → Cond → Bool
+  withinC o Cond.always = true
+  withinC o (Cond.comparison op a b) = withinE o a && withinE o b
+  withinC o (Cond.negated c) = withinC o c
+  withinC o (Cond.connection op c d) = withinC o c && withinC o d
 
 -- ---- the schema of every relation
 
@@ -86,8 +96,8 @@ setRanges SetOperation.intersection as′ bs = as′
 
 -- "A column of 03 or 04 has its select expression's range"
 abbrev pub viewSchema : List Schema → View → Schema
-viewSchema ss (View.basic fs w es) = let R = productBound ss fs in record { bound = R; ranges = map (range (itemRanges ss fs) R) es }
-viewSchema ss (View.grouped fs w gs h es) = let R = productBound ss fs in record { bound = R; ranges = map (range (itemRanges ss fs) R) es }
+viewSchema ss (View.basic fs w es) = record { bound = productBound ss fs; ranges = map (range (openRanges ss fs)) es }
+viewSchema ss (View.grouped fs w gs h es) = record { bound = productBound ss fs; ranges = map (range (openRanges ss fs)) es }
 viewSchema ss (View.set op i j) =
     record { bound = setBound op (schema ss i .bound) (schema ss j .bound); ranges = setRanges op (schema ss i .ranges) (schema ss j .ranges) }
 
@@ -112,24 +122,6 @@ sameWidth ss (View.basic fs w es) = true
 sameWidth ss (View.grouped fs w gs h es) = true
 sameWidth ss (View.set op i j) = eqb (length (schema ss i .ranges)) (length (schema ss j .ranges))
 
--- 7: "Token 07 may stand only in the having and select of an aggregate view, and not inside another 07. There, a column outside 07 must
--- be a grouping column." `columns` says which columns may stand outside 07, and `aggregates` whether 07 may stand
-abbrev mutual
-  pub allowedE : (ℕ → ℕ → Bool) → Bool → Expr → Bool
-  allowedE columns aggregates (Expr.constant z) = true
-  allowedE columns aggregates (Expr.column i c) = columns i c
-  allowedE columns aggregates (Expr.operation op a b) = allowedE columns aggregates a && allowedE columns aggregates b
-  allowedE columns aggregates (Expr.rounding m a) = allowedE columns aggregates a
-  allowedE columns aggregates (Expr.choice c a b) =
-      allowedC columns aggregates c && (allowedE columns aggregates a && allowedE columns aggregates b)
-  allowedE columns aggregates (Expr.aggregate op a) = aggregates && allowedE (λ i c. true) false a
-
-  pub allowedC : (ℕ → ℕ → Bool) → Bool → Cond → Bool
-  allowedC columns aggregates Cond.always = true
-  allowedC columns aggregates (Cond.comparison op a b) = allowedE columns aggregates a && allowedE columns aggregates b
-  allowedC columns aggregates (Cond.negated c) = allowedC columns aggregates c
-  allowedC columns aggregates (Cond.connection op c d) = allowedC columns aggregates c && allowedC columns aggregates d
-
 -- any column
 abbrev pub anyColumn : ℕ → ℕ → Bool
 anyColumn i c = true
@@ -138,10 +130,45 @@ anyColumn i c = true
 abbrev pub groupingColumn : List Place → ℕ → ℕ → Bool
 groupingColumn gs i c = any (λ p. eqb (p .item) i && eqb (p .column) c) gs
 
+-- what may stand in an expression or a condition: which columns outside 07, and whether 07
+pub record Permitted : Type 0 where
+  pub columns : ℕ → ℕ → Bool
+  pub aggregates : Bool
+
+-- 7: "Token 07 may stand only in the having and select of an aggregate view, and not inside another 07. There, a column outside 07 must
+-- be a grouping column."
+abbrev pub inWhere : Permitted
+inWhere = record { columns = anyColumn; aggregates = false }
+
+-- in the select of a basic view
+abbrev pub inBasic : Permitted
+inBasic = record { columns = anyColumn; aggregates = false }
+
+-- in the having and select of an aggregate view
+abbrev pub inGrouped : List Place → Permitted
+inGrouped gs = record { columns = groupingColumn gs; aggregates = true }
+
+abbrev pub insideAggregate : Permitted
+insideAggregate = record { columns = anyColumn; aggregates = false }
+
+abbrev mutual
+  pub allowedE : Permitted → Expr → Bool
+  allowedE p (Expr.constant z) = true
+  allowedE p (Expr.column i c) = p .columns i c
+  allowedE p (Expr.operation op a b) = allowedE p a && allowedE p b
+  allowedE p (Expr.rounding m a) = allowedE p a
+  allowedE p (Expr.choice c a b) = allowedC p c && (allowedE p a && allowedE p b)
+  allowedE p (Expr.aggregate op a) = p .aggregates && allowedE insideAggregate a
+
+  pub allowedC : Permitted → Cond → Bool
+  allowedC p Cond.always = true
+  allowedC p (Cond.comparison op a b) = allowedE p a && allowedE p b
+  allowedC p (Cond.negated c) = allowedC p c
+  allowedC p (Cond.connection op c d) = allowedC p c && allowedC p d
+
 abbrev pub aggregatesFit : List Schema → View → Bool
-aggregatesFit ss (View.basic fs w es) = allowedC anyColumn false w && all (allowedE anyColumn false) es
-aggregatesFit ss (View.grouped fs w gs h es) =
-    allowedC anyColumn false w && (allowedC (groupingColumn gs) true h && all (allowedE (groupingColumn gs) true) es)
+aggregatesFit ss (View.basic fs w es) = allowedC inWhere w && all (allowedE inBasic) es
+aggregatesFit ss (View.grouped fs w gs h es) = allowedC inWhere w && (allowedC (inGrouped gs) h && all (allowedE (inGrouped gs)) es)
 aggregatesFit ss (View.set op i j) = true
 
 -- 8: "Each is at most 64"
@@ -150,11 +177,8 @@ bounded ss q = leb (viewSchema ss q .bound) 64
 
 -- 9: the ranges of every expression of where, having and select
 abbrev pub rangesFit : List Schema → View → Bool
-rangesFit ss (View.basic fs w es) = let R = productBound ss fs in let I = itemRanges ss fs in withinC I R w && all (withinE I R) es
-rangesFit ss (View.grouped fs w gs h es) =
-    let R = productBound ss fs in
-    let I = itemRanges ss fs in
-    withinC I R w && (withinC I R h && all (withinE I R) es)
+rangesFit ss (View.basic fs w es) = let o = openRanges ss fs in withinC o w && all (withinE o) es
+rangesFit ss (View.grouped fs w gs h es) = let o = openRanges ss fs in withinC o w && (withinC o h && all (withinE o) es)
 rangesFit ss (View.set op i j) = true
 
 -- ---- a well-formed file

@@ -10,7 +10,7 @@ use native.Mathlib.Nat.{le-refl}
 use lib.Dec.{ltb, leb}
 use lib.ListN.{length, getD}
 use Rattle.meaning.specs.Syntax.{Expr}
-use Rattle.language.specs.Reading.{Read, Reader, done, refuse, andThen, _>>=_, byte, either, byteIf, twoBytes, step, place, readE, readC}
+use Rattle.language.specs.Reading.{Read, Reader, Open, done, refuse, andThen, _>>=_, byte, either, byteIf, twoBytes, step, place, readE, readC}
 use Rattle.language.proofs.Readers.{then-ok, alike-suffix, Agree, agree-done, agree-refuse, agree-byte}
 use Rattle.language.proofs.PrefixForms.{suffixE, suffixC, readE-nil, readC-nil}
 
@@ -74,8 +74,8 @@ pub field-place : (cols : List ℕ) → Field (place cols)
 field-place cols =
     field-bind (field-if 6 (λ i. ltb i (length cols))) (λ i. ends-bind (field-if 6 (λ c. ltb c (getD cols i 0)) .ends) (λ c. ends-done (Expr.column i c)))
 
-pub fieldE : (cols : List ℕ) → Field (readE cols)
-fieldE cols = record { ends = record { suffix = suffixE cols }; starts = readE-nil cols }
+pub fieldE : (o : Open) → Field (readE o)
+fieldE o = record { ends = record { suffix = suffixE o }; starts = readE-nil o }
 
-pub fieldC : (cols : List ℕ) → Field (readC cols)
-fieldC cols = record { ends = record { suffix = suffixC cols }; starts = readC-nil cols }
+pub fieldC : (o : Open) → Field (readC o)
+fieldC o = record { ends = record { suffix = suffixC o }; starts = readC-nil o }

@@ -11,7 +11,7 @@ use native.Mathlib.Decide.{decLe}
 use native.Mathlib.Omega.{arith}
 use lib.ListN.{length, drop, length-append, length-drop, drop-of-length-le}
 use lib.Seq.{drop-drop, drop-append-seam}
-use Rattle.language.specs.Reading.{Read, Reader, done, andThen, _>>=_, readE, readC}
+use Rattle.language.specs.Reading.{Read, Reader, Open, done, andThen, _>>=_, readE, readC}
 use Rattle.prefix.specs.Skipped.{skipOf, skipped}
 use Rattle.prefix.specs.declared.Skip.{Skip}
 use Rattle.prefix.specs.declared.Skip.the-variants.{Next, Refused}
@@ -94,11 +94,11 @@ module _ (frame : List ℕ) where
   pub field-lands : {A : Type 0} {m : Reader A} → Field m → (at n : ℕ) → skipped frame at m ≡ Next n → Landed m at n
   field-lands f at n e = let h = begins f at n e in lands (f .ends) at n (omega arith) e
 
-  pub landsE : (cols : List ℕ) (at n : ℕ) → skipped frame at (readE cols) ≡ Next n → Landed (readE cols) at n
-  landsE cols = field-lands (fieldE cols)
+  pub landsE : (o : Open) (at n : ℕ) → skipped frame at (readE o) ≡ Next n → Landed (readE o) at n
+  landsE o = field-lands (fieldE o)
 
-  pub landsC : (cols : List ℕ) (at n : ℕ) → skipped frame at (readC cols) ≡ Next n → Landed (readC cols) at n
-  landsC cols = field-lands (fieldC cols)
+  pub landsC : (o : Open) (at n : ℕ) → skipped frame at (readC o) ≡ Next n → Landed (readC o) at n
+  landsC o = field-lands (fieldC o)
 
   -- ---- chains
 

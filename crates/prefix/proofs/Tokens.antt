@@ -12,7 +12,7 @@ use Rattle.value.proofs.Decides.{by-test}
 use Rattle.value.proofs.Places.{from-byte}
 use Rattle.value.specs.Value.{Operation, Comparison, Connective, aggregateAt}
 use Rattle.meaning.specs.Syntax.{Expr, Cond}
-use Rattle.language.specs.Reading.{Reader, done, _>>=_, byte, byteIf, twoBytes, step, place, choose, expressions, conditions, readE, readC}
+use Rattle.language.specs.Reading.{Reader, Open, done, _>>=_, byte, byteIf, twoBytes, step, place, choose, expressions, conditions, readE, readC}
 use Rattle.language.proofs.PrefixForms.{readE-step, readC-step}
 use Rattle.prefix.specs.Skipped.{skipOf, skipped, twice, behindE, behindC}
 use Rattle.prefix.specs.declared.Skip.{Skip}
@@ -24,12 +24,12 @@ use Rattle.prefix.proofs.Skips.{Level, level-refl, level-done, level-bi
 pub past : {k t : ℕ} → k ≤ t → (t ≡ k → ⊥) → k + 1 ≤ t
 past h n = omega arith
 
-module _ (cols : List ℕ) where
+module _ (o : Open) where
   abbrev E : Reader Expr
-  E = readE cols
+  E = readE o
 
   abbrev C : Reader Cond
-  C = readC cols
+  C = readC o
 
   -- two trees that one node holds
   two-trees : {A : Type 0} (f : Expr → Expr → A) → Level (E >>= λ a. E >>= λ b. done (f a b)) (twice E)
@@ -43,12 +43,12 @@ module _ (cols : List ℕ) where
   -- ---- behind each token
   module _ (frame : List ℕ) (at t : ℕ) where
     abbrev OnE : {A : Type 0} → ℕ → Reader A → Type 0
-    OnE k m = t ≡ k → skipped frame at (behindE cols t) ≡ skipped frame at m
+    OnE k m = t ≡ k → skipped frame at (behindE o t) ≡ skipped frame at m
 
     abbrev OnC : {A : Type 0} → ℕ → Reader A → Type 0
-    OnC k m = t ≡ k → skipped frame at (behindC cols t) ≡ skipped frame at m
+    OnC k m = t ≡ k → skipped frame at (behindC o t) ≡ skipped frame at m
 
-    onE : {A : Type 0} (k : ℕ) {m : Reader A} → Level (choose (expressions cols E C) k) m → OnE k m
+    onE : {A : Type 0} (k : ℕ) {m : Reader A} → Level (choose (expressions o E C) k) m → OnE k m
     unfolding behindE
     onE k l e = rw e (level-at frame at l)
 
@@ -59,7 +59,7 @@ module _ (cols : List ℕ) where
     pub on-constant : OnE 0x00 twoBytes
     on-constant = onE 0x00 (level-bind byte (λ h. level-bind byte (λ l. record { same = λ _ _. refl })))
 
-    pub on-place : OnE 0x01 (place cols)
+    pub on-place : OnE 0x01 (place (o .widths))
     on-place = onE 0x01 level-refl
 
     on-sum : OnE 0x02 (twice E)
@@ -71,7 +71,7 @@ module _ (cols : List ℕ) where
     on-product : OnE 0x04 (twice E)
     on-product = onE 0x04 (two-trees (Expr.operation Operation.product))
 
-    pub on-operation : (t ≡ 0x00 → ⊥) → (t ≡ 0x01 → ⊥) → t ≤ 0x04 → skipped frame at (behindE cols t) ≡ skipped frame at (twice E)
+    pub on-operation : (t ≡ 0x00 → ⊥) → (t ≡ 0x01 → ⊥) → t ≤ 0x04 → skipped frame at (behindE o t) ≡ skipped frame at (twice E)
     on-operation a b h =
         by-test (eqb t 0x02)
         (λ e. on-sum (eqb-true t 0x02 e))
@@ -97,7 +97,7 @@ module _ (cols : List ℕ) where
             let z : leb 0 b ≡ true = le-leb 0 b (omega arith) in
             rw z (level-bind (byteIf 5 (λ n. leb n 3)) (λ n. level-done E (Expr.aggregate (aggregateAt n))) .same frame (b ∷ bs))
 
-    pub unknownE : 8 ≤ t → skipped frame at (behindE cols t) ≡ Refused 4
+    pub unknownE : 8 ≤ t → skipped frame at (behindE o t) ≡ Refused 4
     unfolding skipped behindE
     unknownE h =
         rw (
@@ -111,7 +111,7 @@ module _ (cols : List ℕ) where
           ne-eqb t 0x07 (λ e. omega arith),
         )
 
-    pub on-always : at ≤ length frame → t ≡ 0x10 → skipped frame at (behindC cols t) ≡ Next at
+    pub on-always : at ≤ length frame → t ≡ 0x10 → skipped frame at (behindC o t) ≡ Next at
     on-always h e = onC 0x10 {m = done Cond.always} level-refl e ∙ next-is frame (done Cond.always) at at h refl
 
     on-equal : OnC 0x11 (twice E)
@@ -123,7 +123,7 @@ module _ (cols : List ℕ) where
     on-less-equal : OnC 0x13 (twice E)
     on-less-equal = onC 0x13 (two-trees (Cond.comparison Comparison.lessEqual))
 
-    pub on-comparison : 0x11 ≤ t → t ≤ 0x13 → skipped frame at (behindC cols t) ≡ skipped frame at (twice E)
+    pub on-comparison : 0x11 ≤ t → t ≤ 0x13 → skipped frame at (behindC o t) ≡ skipped frame at (twice E)
     on-comparison l h =
         by-test (eqb t 0x11)
         (λ e. on-equal (eqb-true t 0x11 e))
@@ -140,13 +140,13 @@ module _ (cols : List ℕ) where
     on-disjunction : OnC 0x16 (twice C)
     on-disjunction = onC 0x16 (connected (Cond.connection Connective.disjunction))
 
-    pub on-connection : 0x15 ≤ t → t ≤ 0x16 → skipped frame at (behindC cols t) ≡ skipped frame at (twice C)
+    pub on-connection : 0x15 ≤ t → t ≤ 0x16 → skipped frame at (behindC o t) ≡ skipped frame at (twice C)
     on-connection l h =
         by-test (eqb t 0x15)
         (λ e. on-conjunction (eqb-true t 0x15 e))
         (λ n. let p = eqb-false t 0x15 n in on-disjunction (omega arith))
 
-    pub unknownC : (0x10 ≤ t → 0x17 ≤ t) → skipped frame at (behindC cols t) ≡ Refused 4
+    pub unknownC : (0x10 ≤ t → 0x17 ≤ t) → skipped frame at (behindC o t) ≡ Refused 4
     unfolding skipped behindC
     unknownC h =
         rw (
@@ -168,17 +168,17 @@ module _ (cols : List ℕ) where
     Due b = cond b (skipped frame at C) (skipped frame at E)
 
     pub form-ends : (b : Bool) → length frame ≤ at → Due b ≡ Refused 4
-    form-ends true h = past-end frame (fieldC cols) at h
-    form-ends false h = past-end frame (fieldE cols) at h
+    form-ends true h = past-end frame (fieldC o) at h
+    form-ends false h = past-end frame (fieldE o) at h
 
     module _ (lt : at < length frame) where
-      pub formE : skipped frame at E ≡ skipped frame (at + 1) (behindE cols (getD frame at 0))
+      pub formE : skipped frame at E ≡ skipped frame (at + 1) (behindE o (getD frame at 0))
       unfolding skipped behindE
-      formE = ap (λ bs. skipOf frame (E bs)) (from-byte frame at lt) ∙ ap (skipOf frame) (readE-step cols _ _)
+      formE = ap (λ bs. skipOf frame (E bs)) (from-byte frame at lt) ∙ ap (skipOf frame) (readE-step o _ _)
 
-      pub formC : skipped frame at C ≡ skipped frame (at + 1) (behindC cols (getD frame at 0))
+      pub formC : skipped frame at C ≡ skipped frame (at + 1) (behindC o (getD frame at 0))
       unfolding skipped behindC
-      formC = ap (λ bs. skipOf frame (C bs)) (from-byte frame at lt) ∙ ap (skipOf frame) (readC-step cols _ _)
+      formC = ap (λ bs. skipOf frame (C bs)) (from-byte frame at lt) ∙ ap (skipOf frame) (readC-step o _ _)
 
       pub not-condition : getD frame at 0 < 0x10 → skipped frame at C ≡ Refused 4
       not-condition h = formC ∙ unknownC frame (at + 1) (getD frame at 0) (λ l. omega arith)
@@ -193,16 +193,16 @@ module _ (cols : List ℕ) where
   -- ---- two forms
   module _ (frame : List ℕ) (at : ℕ) where
     pub pair-further : (b : Bool) {n : ℕ} {r : Skip} → r ≡ Due frame at b → r ≡ Next n → (at ≤ n) × (n ≤ length frame)
-    pair-further true e k = then-further frame (fieldC cols) at e k
-    pair-further false e k = then-further frame (fieldE cols) at e k
+    pair-further true e k = then-further frame (fieldC o) at e k
+    pair-further false e k = then-further frame (fieldE o) at e k
 
     abbrev Two : Bool → Skip
     Two b = cond b (skipped frame at (twice C)) (skipped frame at (twice E))
 
     pub pair-next : (b : Bool) {n : ℕ} {r : Skip} → r ≡ Due frame at b → r ≡ Next n → Two b ≡ Due frame n b
     unfolding twice
-    pair-next true e k = then-next frame (fieldC cols) at e k (λ _. level-refl)
-    pair-next false e k = then-next frame (fieldE cols) at e k (λ _. level-refl)
+    pair-next true e k = then-next frame (fieldC o) at e k (λ _. level-refl)
+    pair-next false e k = then-next frame (fieldE o) at e k (λ _. level-refl)
 
     pub pair-stop : (b : Bool) {n : ℕ} {r : Skip} → r ≡ Due frame at b → r ≡ Refused n → Two b ≡ Refused n
     unfolding twice

@@ -3,7 +3,7 @@ use mathlib.Core.List.{List}
 use Prim.Native.Nat.{ℕ, _-_}
 use lib.ListN.{length, drop}
 use Rattle.meaning.specs.Syntax.{Expr, Cond}
-use Rattle.language.specs.Reading.{Read, Reader, _>>=_, choose, expressions, conditions, readE, readC}
+use Rattle.language.specs.Reading.{Read, Reader, Open, _>>=_, choose, expressions, conditions, readE, readC}
 use Rattle.prefix.specs.declared.Skip.{Skip}
 use Rattle.prefix.specs.declared.Skip.the-variants.{Next, Refused}
 
@@ -21,8 +21,8 @@ unfoldable pub twice : {A : Type 0} → Reader A → Reader A
 twice r = r >>= λ _. r
 
 -- what stands behind a token
-unfoldable pub behindE : List ℕ → ℕ → Reader Expr
-behindE cols t = choose (expressions cols (readE cols) (readC cols)) t
+unfoldable pub behindE : Open → ℕ → Reader Expr
+behindE o t = choose (expressions o (readE o) (readC o)) t
 
-unfoldable pub behindC : List ℕ → ℕ → Reader Cond
-behindC cols t = choose (conditions (readE cols) (readC cols)) t
+unfoldable pub behindC : Open → ℕ → Reader Cond
+behindC o t = choose (conditions (readE o) (readC o)) t

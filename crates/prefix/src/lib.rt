@@ -5,7 +5,7 @@ ghost use mathlib.Core.Bool.{cond, _&&_};
 ghost use Prim.Native.Nat.{_+_, _*_, _≤_};
 ghost use lib.Dec.{ltb, leb};
 ghost use lib.ListN.{length, getD};
-ghost use Rattle.language.specs.Reading.{byteIf, twoBytes, step as stepR, place as placeR, readE, readC};
+ghost use Rattle.language.specs.Reading.{byteIf, twoBytes, step as stepR, place as placeR, openItems, readE, readC};
 ghost use Rattle.prefix.specs.Skipped.{skipped, twice, behindE, behindC};
 
 // Where the next bytes start, or the number of a refusal.
@@ -117,7 +117,7 @@ pub fn place(frame: &[u8], at: usize, cols: &[u8]) -> Skip
 // A condition where one is due, else an expression: the token's range says which of the two it begins.
 // Refused: 07 is unknown; 10 is unknown.
 pub fn form(frame: &[u8], at: usize, cols: &[u8], condition: bool) -> Skip
-    ensures { λ r. ⌜ r ≡ cond condition (skipped (now (frame .entry)) at (readC (now (cols .entry)))) (skipped (now (frame .entry)) at (readE (now (cols .entry)))) ⌝ }
+    ensures { λ r. ⌜ r ≡ cond condition (skipped (now (frame .entry)) at (readC (openItems (now (cols .entry))))) (skipped (now (frame .entry)) at (readE (openItems (now (cols .entry))))) ⌝ }
 {
     if frame.len() <= at {
         return Skip::Refused(4);
@@ -142,7 +142,7 @@ pub fn form(frame: &[u8], at: usize, cols: &[u8], condition: bool) -> Skip
 // An expression.
 // Refused: a condition; the form at 0.
 pub fn expression(frame: &[u8], at: usize, cols: &[u8]) -> Skip
-    ensures { λ r. ⌜ r ≡ skipped (now (frame .entry)) at (readE (now (cols .entry))) ⌝ }
+    ensures { λ r. ⌜ r ≡ skipped (now (frame .entry)) at (readE (openItems (now (cols .entry)))) ⌝ }
 {
     form(frame, at, cols, false)
 }
@@ -150,14 +150,14 @@ pub fn expression(frame: &[u8], at: usize, cols: &[u8]) -> Skip
 // A condition.
 // Refused: the form at 0; an expression.
 pub fn condition(frame: &[u8], at: usize, cols: &[u8]) -> Skip
-    ensures { λ r. ⌜ r ≡ skipped (now (frame .entry)) at (readC (now (cols .entry))) ⌝ }
+    ensures { λ r. ⌜ r ≡ skipped (now (frame .entry)) at (readC (openItems (now (cols .entry)))) ⌝ }
 {
     form(frame, at, cols, true)
 }
 
 // Two conditions, or two expressions.
 fn pair(frame: &[u8], at: usize, cols: &[u8], condition: bool) -> Skip
-    ensures { λ r. ⌜ r ≡ cond condition (skipped (now (frame .entry)) at (twice (readC (now (cols .entry))))) (skipped (now (frame .entry)) at (twice (readE (now (cols .entry))))) ⌝ }
+    ensures { λ r. ⌜ r ≡ cond condition (skipped (now (frame .entry)) at (twice (readC (openItems (now (cols .entry)))))) (skipped (now (frame .entry)) at (twice (readE (openItems (now (cols .entry)))))) ⌝ }
 {
     match form(frame, at, cols, condition) {
         Skip::Next(next) => form(frame, next, cols, condition),
@@ -167,7 +167,7 @@ fn pair(frame: &[u8], at: usize, cols: &[u8], condition: bool) -> Skip
 
 // What stands behind an expression's token.
 fn behind_expression(frame: &[u8], at: usize, cols: &[u8], token: u8) -> Skip
-    ensures { λ r. ⌜ r ≡ skipped (now (frame .entry)) at (behindE (now (cols .entry)) token) ⌝ }
+    ensures { λ r. ⌜ r ≡ skipped (now (frame .entry)) at (behindE (openItems (now (cols .entry))) token) ⌝ }
 {
     match token {
         0x00 => two_bytes(frame, at),
@@ -192,7 +192,7 @@ fn behind_expression(frame: &[u8], at: usize, cols: &[u8], token: u8) -> Skip
 // What stands behind a condition's token.
 fn behind_condition(frame: &[u8], at: usize, cols: &[u8], token: u8) -> Skip
     requires { ⌜ at ≤ length (now frame) ⌝ }
-    ensures { λ r. ⌜ r ≡ skipped (now (frame .entry)) at (behindC (now (cols .entry)) token) ⌝ }
+    ensures { λ r. ⌜ r ≡ skipped (now (frame .entry)) at (behindC (openItems (now (cols .entry))) token) ⌝ }
 {
     match token {
         0x10 => Skip::Next(at),
