@@ -75,19 +75,19 @@ module _ {frame shape needed counts : List ℕ} {work : List ℤ} {v : ℕ} wher
 -- ---- the loop
 
 -- the views before v are worked out
-pub record Turned (bytes starts shape needed asked : List ℕ) (o : Outline) (counts refuted : List ℕ) (work : List ℤ) (counts′ refuted′ : List ℕ) (work′ : List ℤ) (v : ℕ) : Type 0 where
+pub record Turned (bytes shape needed asked : List ℕ) (o : Outline) (counts refuted : List ℕ) (work : List ℤ) (counts′ refuted′ : List ℕ) (work′ : List ℤ) (v : ℕ) : Type 0 where
   pub first : o .tables ≤ v
   pub kept : TablesKept (o .tables) counts work counts′ work′
   pub refuted-size : length refuted′ ≡ length refuted
-  pub known : {F : File} {g : Goal} {d : Database} {ends : List ℤ} → FileIn F bytes starts shape ends o → Ready F g d needed asked counts refuted work
+  pub known : {F : File} {g : Goal} {d : Database} {ends : List ℤ} → FileIn F bytes shape ends o → Ready F g d needed asked counts refuted work
       → Known F d needed asked counts′ refuted′ work′ v
 
 kept-same : (tables : ℕ) (counts : List ℕ) (work : List ℤ) → TablesKept tables counts work counts work
 kept-same tables counts work = record { size = refl; table = λ t w n h. refl; counts-size = refl; count = λ t h. refl }
 
 -- the tables are known
-tables-known : {F : File} {g : Goal} {d : Database} {bytes starts shape needed asked : List ℕ} {ends : List ℤ} {o : Outline} {counts refuted : List ℕ} {work : List ℤ}
-    → FileIn F bytes starts shape ends o → Ready F g d needed asked counts refuted work → (v : ℕ) → v ≤ length (F .tables) → Known F d needed asked counts refuted work v
+tables-known : {F : File} {g : Goal} {d : Database} {bytes shape needed asked : List ℕ} {ends : List ℤ} {o : Outline} {counts refuted : List ℕ} {work : List ℤ}
+    → FileIn F bytes shape ends o → Ready F g d needed asked counts refuted work → (v : ℕ) → v ≤ length (F .tables) → Known F d needed asked counts refuted work v
 tables-known {F} {d = d} {counts = counts} {work = work} G R v h = record {
   rows-known = λ i l f.
       let there : i < length (F .tables) = omega arith in
@@ -96,8 +96,8 @@ tables-known {F} {d = d} {counts = counts} {work = work} G R v h = record {
   signs-known = λ i t l f. absurd (omega arith);
 }
 
-module _ {bytes starts shape needed asked : List ℕ} {o : Outline} {counts refuted : List ℕ} {work : List ℤ} where
-  pub turned-none : Turned bytes starts shape needed asked o counts refuted work counts refuted work (o .tables)
+module _ {bytes shape needed asked : List ℕ} {o : Outline} {counts refuted : List ℕ} {work : List ℤ} where
+  pub turned-none : Turned bytes shape needed asked o counts refuted work counts refuted work (o .tables)
   turned-none = record {
     first = omega arith;
     kept = kept-same (o .tables) counts work;
@@ -105,10 +105,10 @@ module _ {bytes starts shape needed asked : List ℕ} {o : Outline} {counts refu
     known = λ G R. tables-known G R (o .tables) (omega (arith, G .tables));
   }
 
-  pub turned-more : {counts₁ refuted₁ : List ℕ} {work₁ : List ℤ} {v : ℕ} {frame : List ℕ} → Turned bytes starts shape needed asked o counts refuted work counts₁ refuted₁ work₁ v
-      → v < o .relations → frame ≡ frameIn bytes starts v → {refuted₂ : List ℕ} {work₂ : List ℤ} → SignNoted frame asked counts₁ refuted₁ work₁ v refuted₂ work₂
+  pub turned-more : {counts₁ refuted₁ : List ℕ} {work₁ : List ℤ} {v : ℕ} {frame : List ℕ} → Turned bytes shape needed asked o counts refuted work counts₁ refuted₁ work₁ v
+      → v < o .relations → frame ≡ frameIn bytes shape v → {refuted₂ : List ℕ} {work₂ : List ℤ} → SignNoted frame asked counts₁ refuted₁ work₁ v refuted₂ work₂
       → {counts₂ : List ℕ} {work₃ : List ℤ} → RowsNoted frame shape needed counts₁ work₂ v counts₂ work₃
-      → Turned bytes starts shape needed asked o counts refuted work counts₂ refuted₂ work₃ (v + 1)
+      → Turned bytes shape needed asked o counts refuted work counts₂ refuted₂ work₃ (v + 1)
   turned-more {v = v} T l here {refuted₂} {work₂} S {counts₂} {work₃} N = record {
     first = omega (arith, T .first);
     kept = record {
@@ -125,8 +125,8 @@ module _ {bytes starts shape needed asked : List ℕ} {o : Outline} {counts refu
         (T .refuted-size ∙ R .refuted-size) v (omega (arith, T .first, G .tables)) (omega (arith, G .relations)) here (T .known G R) S N);
   }
 
-  pub turned-all : {counts₁ refuted₁ : List ℕ} {work₁ : List ℤ} {v : ℕ} → Turned bytes starts shape needed asked o counts refuted work counts₁ refuted₁ work₁ v
-      → o .relations ≤ v → Evaluates bytes starts shape needed asked o counts refuted work counts₁ refuted₁ work₁
+  pub turned-all : {counts₁ refuted₁ : List ℕ} {work₁ : List ℤ} {v : ℕ} → Turned bytes shape needed asked o counts refuted work counts₁ refuted₁ work₁ v
+      → o .relations ≤ v → Evaluates bytes shape needed asked o counts refuted work counts₁ refuted₁ work₁
   turned-all {counts₁} {refuted₁} {work₁} {v} T h = record {
     kept = T .kept;
     refuted-size = T .refuted-size;
@@ -171,16 +171,16 @@ filled-rows : {ts : List Table} {d : Database} → Each InRange ts d → any has
 filled-rows Each.nil = refl
 filled-rows (Each.cons p ps) = ap₂ _||_ (ap isPos (p .rows)) (filled-rows ps)
 
-module _ {bytes starts shape needed asked : List ℕ} {o : Outline} {g : GoalHere} {counts refuted : List ℕ} {work : List ℤ} where
+module _ {bytes shape needed asked : List ℕ} {o : Outline} {g : GoalHere} {counts refuted : List ℕ} {work : List ℤ} where
   -- a database with no rows, or one that is not valid, is no case
-  pub case-empty : o .filled ≡ false → IsCase bytes starts shape needed asked o g counts refuted work false counts refuted work
+  pub case-empty : o .filled ≡ false → IsCase bytes shape needed asked o g counts refuted work false counts refuted work
   case-empty h = record {
     kept = kept-same (o .tables) counts work;
     refuted-size = refl;
     case = λ {F} {d} G R. no-row F (goalOf g) d (filled-rows (R .shaped) ∙ sym (G .filled) ∙ h);
   }
 
-  pub case-invalid : {b : Bool} → IsValid bytes shape o counts work b → b ≡ false → IsCase bytes starts shape needed asked o g counts refuted work false counts refuted work
+  pub case-invalid : {b : Bool} → IsValid bytes shape o counts work b → b ≡ false → IsCase bytes shape needed asked o g counts refuted work false counts refuted work
   case-invalid ok h = record {
     kept = kept-same (o .tables) counts work;
     refuted-size = refl;
@@ -188,8 +188,8 @@ module _ {bytes starts shape needed asked : List ℕ} {o : Outline} {g : GoalHer
   }
 
   pub case-valid : {b r : Bool} {counts′ refuted′ : List ℕ} {work′ : List ℤ} → o .filled ≡ true → IsValid bytes shape o counts work b → b ≡ true
-      → Evaluates bytes starts shape needed asked o counts refuted work counts′ refuted′ work′ → IsWanted g counts′ refuted′ r
-      → IsCase bytes starts shape needed asked o g counts refuted work r counts′ refuted′ work′
+      → Evaluates bytes shape needed asked o counts refuted work counts′ refuted′ work′ → IsWanted g counts′ refuted′ r
+      → IsCase bytes shape needed asked o g counts refuted work r counts′ refuted′ work′
   case-valid {r = r} {counts′} {refuted′} {work′} f ok h E X = record {
     kept = E .kept;
     refuted-size = E .refuted-size;

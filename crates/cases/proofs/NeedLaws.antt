@@ -86,10 +86,10 @@ pub record From (F : File) (v : ℕ) (needed asked : List ℕ) : Type 0 where
   pub signs : (u : ℕ) (q : View) → v ≤ u → query (length (F .tables)) F u ≡ some q → Flag asked u → Asks needed asked q
 
 -- the flags at first, and as they are
-pub record Reached (bytes starts : List ℕ) (o : Outline) (v : ℕ) (needed₀ asked₀ needed asked : List ℕ) : Type 0 where
+pub record Reached (bytes shape : List ℕ) (o : Outline) (v : ℕ) (needed₀ asked₀ needed asked : List ℕ) : Type 0 where
   pub needed-more : More needed₀ needed
   pub asked-more : More asked₀ asked
-  pub from : {F : File} {shape : List ℕ} {ends : List ℤ} → FileIn F bytes starts shape ends o → length needed ≡ 16 → length asked ≡ 16 → From F v needed asked
+  pub from : {F : File} {ends : List ℤ} → FileIn F bytes shape ends o → length needed ≡ 16 → length asked ≡ 16 → From F v needed asked
 
 asks-more : {needed needed′ asked asked′ : List ℕ} → More needed needed′ → More asked asked′ → (q : View) → Asks needed asked q
     → Asks needed′ asked′ q
@@ -116,7 +116,7 @@ some-one e = cc
 earlier-of : (F : File) → Legal F → Stacked (length (F .tables)) F
 earlier-of F l = stacked F (rules F (legal-wellFormed F l) .earlier-views)
 
-pub reached-none : {bytes starts : List ℕ} (o : Outline) (needed asked : List ℕ) → Reached bytes starts o (o .relations) needed asked needed asked
+pub reached-none : {bytes shape : List ℕ} (o : Outline) (needed asked : List ℕ) → Reached bytes shape o (o .relations) needed asked needed asked
 reached-none o needed asked = record {
   needed-more = more-same needed;
   asked-more = more-same asked;
@@ -126,10 +126,10 @@ reached-none o needed asked = record {
       record { rows = λ u q h e f. absurd (past u q h e); signs = λ u q h e f. absurd (past u q h e) };
 }
 
-module _ {bytes starts : List ℕ} {o : Outline} {v : ℕ} {needed₀ asked₀ needed needed′ asked asked′ frame : List ℕ} (h : o .tables < v) (l : v ≤ o .relations)
-    (r : Reached bytes starts o v needed₀ asked₀ needed asked) (place : frame ≡ frameIn bytes starts (v - 1))
+module _ {bytes shape : List ℕ} {o : Outline} {v : ℕ} {needed₀ asked₀ needed needed′ asked asked′ frame : List ℕ} (h : o .tables < v) (l : v ≤ o .relations)
+    (r : Reached bytes shape o v needed₀ asked₀ needed asked) (place : frame ≡ frameIn bytes shape (v - 1))
     (x : NeedsRows frame needed asked (v - 1) needed′) (y : NeedsSigns frame asked (v - 1) asked′) where
-  module _ {F : File} {shape : List ℕ} {ends : List ℤ} (G : FileIn F bytes starts shape ends o) (n : length needed′ ≡ 16) (a : length asked′ ≡ 16) where
+  module _ {F : File} {ends : List ℤ} (G : FileIn F bytes shape ends o) (n : length needed′ ≡ 16) (a : length asked′ ≡ 16) where
     few : v - 1 < 16
     few = omega (arith, h, l, G .relations, G .legal .relationCount)
 
@@ -170,17 +170,17 @@ module _ {bytes starts : List ℕ} {o : Outline} {v : ℕ} {needed₀ asked₀ n
         let here : query T F (v - 1) ≡ some q₀ = by-lt (v - 1) T (λ t k. absurd (omega (arith, h, G .tables))) (λ t k. rw t is) in
         turn-of q₀ here
 
-  pub reached-next : Reached bytes starts o (v - 1) needed₀ asked₀ needed′ asked′
+  pub reached-next : Reached bytes shape o (v - 1) needed₀ asked₀ needed′ asked′
   reached-next = record {
     needed-more = more-more (r .needed-more) (x .more);
     asked-more = more-more (r .asked-more) (y .more);
     from = λ G n a. turn G n a;
   }
 
-pub needs-all : {bytes starts : List ℕ} {o : Outline} {g : GoalHere} {v : ℕ} {needed₀ asked₀ needed₁ asked₁ needed asked : List ℕ}
-    → NeedsGoal g needed₀ asked₀ needed₁ asked₁ → v ≤ o .tables → Reached bytes starts o v needed₁ asked₁ needed asked
-    → NeedsOf bytes starts o g needed₀ asked₀ needed asked
-needs-all {bytes} {starts} {o} {g} {v} {needed₀} {asked₀} {needed = needed} {asked} t h r = record {
+pub needs-all : {bytes shape : List ℕ} {o : Outline} {g : GoalHere} {v : ℕ} {needed₀ asked₀ needed₁ asked₁ needed asked : List ℕ}
+    → NeedsGoal g needed₀ asked₀ needed₁ asked₁ → v ≤ o .tables → Reached bytes shape o v needed₁ asked₁ needed asked
+    → NeedsOf bytes shape o g needed₀ asked₀ needed asked
+needs-all {bytes} {shape} {o} {g} {v} {needed₀} {asked₀} {needed = needed} {asked} t h r = record {
   needed-size = n;
   asked-size = a;
   covers = λ {F} G W x y.
@@ -200,5 +200,5 @@ needs-all {bytes} {starts} {o} {g} {v} {needed₀} {asked₀} {needed = needed} 
     a : length asked ≡ length asked₀
     a = r .asked-more .size ∙ t .asked-more .size
 
-    below : {F : File} {shape : List ℕ} {ends : List ℤ} → FileIn F bytes starts shape ends o → (u : ℕ) (q : View) → query (length (F .tables)) F u ≡ some q → v ≤ u
+    below : {F : File} {ends : List ℤ} → FileIn F bytes shape ends o → (u : ℕ) (q : View) → query (length (F .tables)) F u ≡ some q → v ≤ u
     below {F} G u q e = let x = query-split (length (F .tables)) F u q e in omega (arith, x .0, h, G .tables)

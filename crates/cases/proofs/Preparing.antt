@@ -25,7 +25,7 @@ use Rattle.cases.proofs.FileLaws.{view-legal, before-length}
 
 -- ---- numbers of rows
 
-pub counts-are : {F : File} {bytes starts shape : List ℕ} {ends : List ℤ} {o : Outline} {counts counts′ : List ℕ} → FileIn F bytes starts shape ends o
+pub counts-are : {F : File} {bytes shape : List ℕ} {ends : List ℤ} {o : Outline} {counts counts′ : List ℕ} → FileIn F bytes shape ends o
     → TablesCounted shape (o .tables) counts counts′ → length counts ≡ 16 → (t : ℕ) → t < length (F .tables) → getD counts′ t 0 ≡ tableAt (F .tables) t .rows
 counts-are {F} G c s t h = c .counted t (omega (arith, G .tables)) (omega (arith, G .legal .relationCount)) ∙ rows-are G t h
 

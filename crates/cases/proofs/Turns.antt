@@ -101,9 +101,9 @@ module _ {F : File} {g : Goal} {d : Database} {needed asked : List ℕ} (L : Leg
 
   -- ---- one turn
 
-  module _ {bytes starts shape : List ℕ} {ends : List ℤ} {o : Outline} (G : FileIn F bytes starts shape ends o) {counts refuted : List ℕ} {work : List ℤ}
+  module _ {bytes shape : List ℕ} {ends : List ℤ} {o : Outline} (G : FileIn F bytes shape ends o) {counts refuted : List ℕ} {work : List ℤ}
       (whole : area ≤ length work) (counts-size : length counts ≡ 16) (refuted-size : length refuted ≡ 16) (v : ℕ) (first : n ≤ v)
-      (last : v < n + length (F .views)) {frame : List ℕ} (here : frame ≡ frameIn bytes starts v) (K : Known F d needed asked counts refuted work v)
+      (last : v < n + length (F .views)) {frame : List ℕ} (here : frame ≡ frameIn bytes shape v) (K : Known F d needed asked counts refuted work v)
       {counts′ refuted′ : List ℕ} {work₁ work₂ : List ℤ} (S : SignNoted frame asked counts refuted work v refuted′ work₁)
       (R : RowsNoted frame shape needed counts work₁ v counts′ work₂) where
     small : v < 16

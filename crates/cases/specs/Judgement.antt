@@ -60,10 +60,10 @@ pub record TablesKept (tables : ℕ) (counts : List ℕ) (work : List ℤ) (coun
   pub counts-size : length counts′ ≡ length counts
   pub count : (t : ℕ) → t < tables → getD counts′ t 0 ≡ getD counts t 0
 
-pub record Evaluates (bytes starts shape needed asked : List ℕ) (o : Outline) (counts refuted : List ℕ) (work : List ℤ) (counts′ refuted′ : List ℕ) (work′ : List ℤ) : Type 0 where
+pub record Evaluates (bytes shape needed asked : List ℕ) (o : Outline) (counts refuted : List ℕ) (work : List ℤ) (counts′ refuted′ : List ℕ) (work′ : List ℤ) : Type 0 where
   pub kept : TablesKept (o .tables) counts work counts′ work′
   pub refuted-size : length refuted′ ≡ length refuted
-  pub known : {F : File} {g : Goal} {d : Database} {ends : List ℤ} → FileIn F bytes starts shape ends o → Ready F g d needed asked counts refuted work
+  pub known : {F : File} {g : Goal} {d : Database} {ends : List ℤ} → FileIn F bytes shape ends o → Ready F g d needed asked counts refuted work
       → Known F d needed asked counts′ refuted′ work′ (length (F .tables) + length (F .views))
 
 -- ---- the case
@@ -73,8 +73,8 @@ pub record IsWanted (g : GoalHere) (counts refuted : List ℕ) (r : Bool) : Type
   pub by-sign : (b : Bool) → g .negative ≡ true → getD refuted (g .view) 0 ≡ cond b 1 0 → r ≡ b
 
 -- of every legal file and every database of its row counts and value ranges
-pub record IsCase (bytes starts shape needed asked : List ℕ) (o : Outline) (g : GoalHere) (counts refuted : List ℕ) (work : List ℤ) (r : Bool) (counts′ refuted′ : List ℕ) (work′ : List ℤ) : Type 0 where
+pub record IsCase (bytes shape needed asked : List ℕ) (o : Outline) (g : GoalHere) (counts refuted : List ℕ) (work : List ℤ) (r : Bool) (counts′ refuted′ : List ℕ) (work′ : List ℤ) : Type 0 where
   pub kept : TablesKept (o .tables) counts work counts′ work′
   pub refuted-size : length refuted′ ≡ length refuted
-  pub case : {F : File} {d : Database} {ends : List ℤ} → FileIn F bytes starts shape ends o → Ready F (goalOf g) d needed asked counts refuted work
+  pub case : {F : File} {d : Database} {ends : List ℤ} → FileIn F bytes shape ends o → Ready F (goalOf g) d needed asked counts refuted work
       → r ≡ isCase F (goalOf g) d

@@ -80,8 +80,8 @@ pub record NeedsGoal (g : GoalHere) (needed asked needed′ asked′ : List ℕ)
   pub asked-more : More asked asked′
   pub goal : g .view < length needed → g .view < length asked → Wants needed′ asked′ (g .negative) (g .view)
 
-pub record NeedsOf (bytes starts : List ℕ) (o : Outline) (g : GoalHere) (needed asked needed′ asked′ : List ℕ) : Type 0 where
+pub record NeedsOf (bytes shape : List ℕ) (o : Outline) (g : GoalHere) (needed asked needed′ asked′ : List ℕ) : Type 0 where
   pub needed-size : length needed′ ≡ length needed
   pub asked-size : length asked′ ≡ length asked
-  pub covers : {F : File} {shape : List ℕ} {ends : List ℤ} → FileIn F bytes starts shape ends o → GoalIn F (goalOf g)
+  pub covers : {F : File} {ends : List ℤ} → FileIn F bytes shape ends o → GoalIn F (goalOf g)
       → length needed ≡ 16 → length asked ≡ 16 → Covers F (goalOf g) needed′ asked′

@@ -34,7 +34,6 @@ fn note_rows(frame: &[u8], shape: &[u8], needed: &[u8], counts: &mut [u8], work:
 // Refused: the first frame for each; rows where signs are asked.
 pub fn evaluate(
     bytes: &[u8],
-    starts: &[u32],
     shape: &[u8],
     needed: &[u8],
     asked: &[u8],
@@ -43,11 +42,11 @@ pub fn evaluate(
     refuted: &mut [u8],
     work: &mut [i32],
 )
-    ensures { λ _. ⌜ Evaluates (now (bytes .entry)) (now (starts .entry)) (now (shape .entry)) (now (needed .entry)) (now (asked .entry)) o (now (counts .entry)) (now (refuted .entry)) (now (work .entry)) (now (counts .exit)) (now (refuted .exit)) (now (work .exit)) ⌝ }
+    ensures { λ _. ⌜ Evaluates (now (bytes .entry)) (now (shape .entry)) (now (needed .entry)) (now (asked .entry)) o (now (counts .entry)) (now (refuted .entry)) (now (work .entry)) (now (counts .exit)) (now (refuted .exit)) (now (work .exit)) ⌝ }
 {
     let mut v = o.tables;
     while v < o.relations {
-        let frame = frames::frame_of(bytes, starts, v);
+        let frame = frames::frame_of(bytes, shape, v);
         note_sign(frame, asked, counts, refuted, work, v);
         note_rows(frame, shape, needed, counts, work, v);
         v += 1;
@@ -69,7 +68,6 @@ pub fn wanted(goal: Goal, counts: &[u8], refuted: &[u8]) -> bool
 // Refused: an empty database; a database that is not valid.
 pub fn is_case(
     bytes: &[u8],
-    starts: &[u32],
     shape: &[u8],
     needed: &[u8],
     asked: &[u8],
@@ -79,7 +77,7 @@ pub fn is_case(
     refuted: &mut [u8],
     work: &mut [i32],
 ) -> bool
-    ensures { λ r. ⌜ IsCase (now (bytes .entry)) (now (starts .entry)) (now (shape .entry)) (now (needed .entry)) (now (asked .entry)) o goal (now (counts .entry)) (now (refuted .entry)) (now (work .entry)) r (now (counts .exit)) (now (refuted .exit)) (now (work .exit)) ⌝ }
+    ensures { λ r. ⌜ IsCase (now (bytes .entry)) (now (shape .entry)) (now (needed .entry)) (now (asked .entry)) o goal (now (counts .entry)) (now (refuted .entry)) (now (work .entry)) r (now (counts .exit)) (now (refuted .exit)) (now (work .exit)) ⌝ }
 {
     if !o.filled {
         return false;
@@ -87,16 +85,6 @@ pub fn is_case(
     if !validity::is_valid(bytes, shape, o, counts, work) {
         return false;
     }
-    evaluate(
-        bytes,
-        starts,
-        shape,
-        needed,
-        asked,
-        o,
-        counts,
-        refuted,
-        work,
-    );
+    evaluate(bytes, shape, needed, asked, o, counts, refuted, work);
     wanted(goal, counts, refuted)
 }

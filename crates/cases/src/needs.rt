@@ -64,19 +64,19 @@ fn need_goal(goal: Goal, needed: &mut [u8], asked: &mut [u8])
 // Refused: the goal alone; what the first relation names for each.
 pub fn needs_of(
     bytes: &[u8],
-    starts: &[u32],
+    shape: &[u8],
     o: Outline,
     goal: Goal,
     needed: &mut [u8],
     asked: &mut [u8],
 )
-    ensures { λ _. ⌜ NeedsOf (now (bytes .entry)) (now (starts .entry)) o goal (now (needed .entry)) (now (asked .entry)) (now (needed .exit)) (now (asked .exit)) ⌝ }
+    ensures { λ _. ⌜ NeedsOf (now (bytes .entry)) (now (shape .entry)) o goal (now (needed .entry)) (now (asked .entry)) (now (needed .exit)) (now (asked .exit)) ⌝ }
 {
     need_goal(goal, needed, asked);
     let mut v = o.relations;
     while o.tables < v {
         v -= 1;
-        let frame = frames::frame_of(bytes, starts, v);
+        let frame = frames::frame_of(bytes, shape, v);
         need_rows(frame, needed, asked, v);
         need_signs(frame, asked, v);
     }

@@ -41,7 +41,7 @@ module _ (text : List ℕ) (F : File) (e : fileOf text ≡ Outcome.accepted F) w
   -- any candidate is prepared by the calls of a look up to its first test
   pub placed : (p : Plan) {k : ℕ} {codes counts needed asked : List ℕ} {n : ℕ} {work work′ : List ℤ} → Plans (fileOf text) p
       → CellsOf (p .shape) (p .outline .tables) (replicate 512 0) n codes → TablesCounted (p .shape) (p .outline .tables) (replicate 16 0) counts
-      → NeedsOf (p .bytes) (p .starts) (p .outline) (p .goal) (replicate 16 0) (replicate 16 0) needed asked
+      → NeedsOf (p .bytes) (p .shape) (p .outline) (p .goal) (replicate 16 0) (replicate 16 0) needed asked
       → area ≤ length work → CandidatePut (p .shape) (p .ends) codes n k work work′ → Prepared text F k
   placed p {counts = counts} {needed} {asked} {work′ = work′} c D C N whole P =
       let M = planned c .file in
@@ -61,7 +61,7 @@ module _ (text : List ℕ) (F : File) (e : fileOf text ≡ Outcome.accepted F) w
     plan-of : PlanOf F (P .plan)
     plan-of = planned (P .checked)
 
-    set-up : Setting F (P .plan .bytes) (P .plan .starts) (P .plan .shape) (P .plan .ends) (P .needed) (P .asked) (P .plan .outline) (P .plan .goal)
+    set-up : Setting F (P .plan .bytes) (P .plan .shape) (P .plan .ends) (P .needed) (P .asked) (P .plan .outline) (P .plan .goal)
     set-up = setting (plan-of .file) (plan-of .goal) (P .flagged)
 
     -- the next candidate is prepared by the test of this one and the move to that one

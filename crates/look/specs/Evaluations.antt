@@ -31,7 +31,7 @@ pub record Prepared (text : List ℕ) (F : File) (k : ℕ) : Type 0 where
   -- plan::check
   pub checked : Plans (fileOf text) plan
   -- needs::needs_of, where no flag was set
-  pub flagged : NeedsOf (plan .bytes) (plan .starts) (plan .outline) (plan .goal) (replicate 16 0) (replicate 16 0) needed asked
+  pub flagged : NeedsOf (plan .bytes) (plan .shape) (plan .outline) (plan .goal) (replicate 16 0) (replicate 16 0) needed asked
   -- outline::count_tables and moves::put_candidate; of a later candidate, judgement::is_case of the one before and moves::move_to
   pub stands : At F counts refuted work k
 
@@ -39,12 +39,12 @@ module _ {text : List ℕ} {F : File} {k : ℕ} (P : Prepared text F k) where
   -- judgement::evaluate leaves these numbers
   abbrev pub Evaluated : List ℕ → List ℕ → List ℤ → Type 0
   Evaluated counts′ refuted′ work′ =
-      Evaluates (P .plan .bytes) (P .plan .starts) (P .plan .shape) (P .needed) (P .asked) (P .plan .outline) (P .counts) (P .refuted) (P .work) counts′ refuted′ work′
+      Evaluates (P .plan .bytes) (P .plan .shape) (P .needed) (P .asked) (P .plan .outline) (P .counts) (P .refuted) (P .work) counts′ refuted′ work′
 
   -- judgement::is_case answers r, and leaves these numbers
   abbrev pub Judged : Bool → List ℕ → List ℕ → List ℤ → Type 0
   Judged r counts′ refuted′ work′ =
-      IsCase (P .plan .bytes) (P .plan .starts) (P .plan .shape) (P .needed) (P .asked) (P .plan .outline) (P .plan .goal) (P .counts) (P .refuted) (P .work) r counts′ refuted′ work′
+      IsCase (P .plan .bytes) (P .plan .shape) (P .needed) (P .asked) (P .plan .outline) (P .plan .goal) (P .counts) (P .refuted) (P .work) r counts′ refuted′ work′
 
 -- "Each view's rows, counted as a bag, are those of the Extended Relational Algebra": of every relation that is flagged, the goal's among
 -- them if it is positive, the rows that stand in the work area are ⟨V⟩

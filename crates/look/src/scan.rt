@@ -11,7 +11,6 @@ ghost use Rattle.look.specs.Scans.{Tested, Scans, Searched};
 // Candidate k, whose cells stand in the work area, if it is a case; else the candidate to go on with.
 fn tested(
     bytes: &[u8],
-    starts: &[u32],
     shape: &[u8],
     needed: &[u8],
     asked: &[u8],
@@ -23,20 +22,9 @@ fn tested(
     work: &mut [i32],
 ) -> u64
     requires { ⌜ k < 18446744073709551615 ⌝ }
-    ensures { λ r. ⌜ Tested (now (bytes .entry)) (now (starts .entry)) (now (shape .entry)) (now (needed .entry)) (now (asked .entry)) o goal k (now (counts .entry)) (now (refuted .entry)) (now (work .entry)) r (now (counts .exit)) (now (refuted .exit)) (now (work .exit)) ⌝ }
+    ensures { λ r. ⌜ Tested (now (bytes .entry)) (now (shape .entry)) (now (needed .entry)) (now (asked .entry)) o goal k (now (counts .entry)) (now (refuted .entry)) (now (work .entry)) r (now (counts .exit)) (now (refuted .exit)) (now (work .exit)) ⌝ }
 {
-    if judgement::is_case(
-        bytes,
-        starts,
-        shape,
-        needed,
-        asked,
-        o,
-        goal,
-        counts,
-        refuted,
-        work,
-    ) {
+    if judgement::is_case(bytes, shape, needed, asked, o, goal, counts, refuted, work) {
         return k;
     }
     k + 1
@@ -46,7 +34,6 @@ fn tested(
 // case then.
 fn scan(
     bytes: &[u8],
-    starts: &[u32],
     shape: &[u8],
     ends: &[i32],
     needed: &[u8],
@@ -61,13 +48,12 @@ fn scan(
     refuted: &mut [u8],
     work: &mut [i32],
 ) -> u64
-    ensures { λ r. ⌜ Scans (now (bytes .entry)) (now (starts .entry)) (now (shape .entry)) (now (ends .entry)) (now (needed .entry)) (now (asked .entry)) o goal (now (codes .entry)) cells start end (now (counts .entry)) (now (refuted .entry)) (now (work .entry)) r (now (work .exit)) ⌝ }
+    ensures { λ r. ⌜ Scans (now (bytes .entry)) (now (shape .entry)) (now (ends .entry)) (now (needed .entry)) (now (asked .entry)) o goal (now (codes .entry)) cells start end (now (counts .entry)) (now (refuted .entry)) (now (work .entry)) r (now (work .exit)) ⌝ }
 {
     let mut k = start;
     while k < end {
         let next = tested(
             bytes,
-            starts,
             shape,
             needed,
             asked,
@@ -91,7 +77,6 @@ fn scan(
 // Refused: the cells of candidate 0 for any start; flags for 15 relations.
 pub fn search(
     bytes: &[u8],
-    starts: &[u32],
     shape: &[u8],
     ends: &[i32],
     o: Outline,
@@ -102,18 +87,17 @@ pub fn search(
     end: u64,
     work: &mut [i32],
 ) -> u64
-    ensures { λ r. ⌜ Searched (now (bytes .entry)) (now (starts .entry)) (now (shape .entry)) (now (ends .entry)) o goal (now (codes .entry)) cells start end (now (work .entry)) r (now (work .exit)) ⌝ }
+    ensures { λ r. ⌜ Searched (now (bytes .entry)) (now (shape .entry)) (now (ends .entry)) o goal (now (codes .entry)) cells start end (now (work .entry)) r (now (work .exit)) ⌝ }
 {
     let mut counts = [0u8; 16];
     outline::count_tables(shape, o.tables, &mut counts);
     let mut needed = [0u8; 16];
     let mut asked = [0u8; 16];
-    needs::needs_of(bytes, starts, o, goal, &mut needed, &mut asked);
+    needs::needs_of(bytes, shape, o, goal, &mut needed, &mut asked);
     let mut refuted = [0u8; 16];
     moves::put_candidate(shape, ends, codes, cells, start, work);
     scan(
         bytes,
-        starts,
         shape,
         ends,
         &needed,

@@ -38,12 +38,12 @@ refused-trial (Outcome.accepted F) p h k counts work = absurd (k (h .number))
 
 -- ---- an accepted text
 
-pub every-relation : {bytes starts shape : List ℕ} {o : Outline} {g : Goal} {counts counts₁ counts₂ counts₃ needed asked refuted₁ refuted₂ : List ℕ}
+pub every-relation : {bytes shape : List ℕ} {o : Outline} {g : Goal} {counts counts₁ counts₂ counts₃ needed asked refuted₁ refuted₂ : List ℕ}
     {work work₂ work₃ : List ℤ} {b : Bool}
-    → TablesCounted shape (o .tables) counts counts₁ → NeedsOf bytes starts o g (replicate 16 0) (replicate 16 0) needed asked
-    → IsCase bytes starts shape needed asked o g counts₁ (replicate 16 0) work b counts₂ refuted₁ work₂
-    → Evaluates bytes starts shape (replicate 16 1) (replicate 16 1) o counts₂ refuted₁ work₂ counts₃ refuted₂ work₃
-    → EveryRelation bytes starts shape o g counts work b counts₃ work₃
+    → TablesCounted shape (o .tables) counts counts₁ → NeedsOf bytes shape o g (replicate 16 0) (replicate 16 0) needed asked
+    → IsCase bytes shape needed asked o g counts₁ (replicate 16 0) work b counts₂ refuted₁ work₂
+    → Evaluates bytes shape (replicate 16 1) (replicate 16 1) o counts₂ refuted₁ work₂ counts₃ refuted₂ work₃
+    → EveryRelation bytes shape o g counts work b counts₃ work₃
 every-relation {g = g} {counts₁ = counts₁} {counts₂} {needed = needed} {asked} {refuted₁} {work = work} {work₂} C N J E = record {
   evaluated = λ F M e d shaped T whole size.
       let tables : TablesIn F d counts₁ work = record { table = λ t h. rw (counts-are M C size t h) (T .table t h) } in
@@ -71,7 +71,7 @@ every-relation {g = g} {counts₁ = counts₁} {counts₂} {needed = needed} {as
 }
 
 pub accepted-trial : (out : Outcome) (p : Plan) {counts counts′ : List ℕ} {work work′ : List ℤ} {b : Bool} {r : ℕ} → Plans out p → p .number ≡ 0
-    → EveryRelation (p .bytes) (p .starts) (p .shape) (p .outline) (p .goal) counts work b counts′ work′ → r ≡ cond b 1 0 → Tried out counts work r counts′ work′
+    → EveryRelation (p .bytes) (p .shape) (p .outline) (p .goal) counts work b counts′ work′ → r ≡ cond b 1 0 → Tried out counts work r counts′ work′
 accepted-trial (Outcome.refused n line) p h z E v = absurd (h .2 (sym (h .0) ∙ z))
 accepted-trial (Outcome.accepted F) p {counts′ = counts′} {work′ = work′} h z E v = λ d shaped T whole size.
     subst (λ k. Evaluated F d k counts′ work′) (sym v) (E .evaluated F (h .file) (h .goal) d shaped T whole size)

@@ -8,10 +8,10 @@ use Rattle.cases.proofs.needs.needs_of.Statement.{statement}
 use Rattle.cases.proofs.needs.needs_of.Tie as tie
 
 abbrev Inv-loop : tie.InvT-loop
-Inv-loop bytes starts o needed₀ asked₀ v₀ needed asked v = (v ≤ o .relations) × Reached bytes starts o v needed₀ asked₀ needed asked
+Inv-loop bytes shape o needed₀ asked₀ v₀ needed asked v = (v ≤ o .relations) × Reached bytes shape o v needed₀ asked₀ needed asked
 
 abbrev μ-loop : tie.MeasureT-loop
-μ-loop bytes starts o needed₀ asked₀ v₀ needed asked v = v
+μ-loop bytes shape o needed₀ asked₀ v₀ needed asked v = v
 
 need-goal-requires : tie.Need-need-goal-requires Inv-loop μ-loop
 need-goal-requires c κs = search needs
