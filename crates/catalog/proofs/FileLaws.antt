@@ -56,6 +56,10 @@ tables-in {ts} {shape} {ends} legal known = record {
 pub schema-kept : {n : ℕ} {shape shape′ : List ℕ} (ends : List ℤ) → FirstKept n shape shape′ → 4 ≤ n → (i : ℕ) → schemaIn shape′ ends i ≡ schemaIn shape ends i
 schema-kept ends k h i = ap₂ (λ b m. record { bound = b; ranges = rangesFrom ends (16 * i) m }) (k .byte i 2 (omega arith)) (k .byte i 1 (omega arith))
 
+pub column-kept : {n : ℕ} {shape shape′ : List ℕ} (ends : List ℤ) → FirstKept n shape shape′ → 4 ≤ n → (i c : ℕ) → columnAt shape′ ends i c ≡ columnAt shape ends i c
+unfolding columnAt
+column-kept ends k h i c = rw (k .byte i 1 (omega arith))
+
 module _ {F : File} {bytes shape : List ℕ} {ends : List ℤ} {o : Outline} (M : FileIn F bytes shape ends o) where
   pub width-is : (i : ℕ) → widthAt shape i ≡ length (schema (schemas F) i .ranges)
   width-is i = sym (length-ranges ends (16 * i) (widthAt shape i)) ∙ ap (λ (s : Schema). length (s .ranges)) (M .known i)
@@ -82,6 +86,7 @@ module _ {F : File} {bytes shape : List ℕ} {ends : List ℤ} {o : Outline} (M 
   unfolding startAt
   file-kept {shape′} k = record {
     legal = M .legal;
+    sized = k .size ∙ M .sized;
     tables = M .tables;
     keys = M .keys;
     relations = M .relations;

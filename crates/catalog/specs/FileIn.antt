@@ -29,6 +29,7 @@ pub record TablesKnown (ts : List Table) (shape : List ℕ) (ends : List ℤ) : 
 
 pub record FileIn (F : File) (bytes shape : List ℕ) (ends : List ℤ) (o : Outline) : Type 0 where
   pub legal : Legal F
+  pub sized : length shape ≡ 128
   pub tables : o .tables ≡ length (F .tables)
   pub keys : o .keys ≡ length (F .keys)
   pub relations : o .relations ≡ length (F .tables) + length (F .views)

@@ -9,7 +9,7 @@ use Prim.Native.Nat.{ℕ, _≤_, _<_, min}
 use native.Mathlib.Omega.{arith}
 use lib.Dec.{leb}
 use lib.IntN.{ℤ, pos}
-use lib.ListN.{length, getD, take, drop, replicate, take-append-drop}
+use lib.ListN.{length, take, drop, replicate, take-append-drop}
 use borrow.Author.Tests.{le-leb, lt-leb}
 use Rattle.value.specs.Bag.{All}
 use Rattle.value.proofs.Places.{getD-all}
@@ -139,6 +139,7 @@ module _ (text : List ℕ) (r : Frames) (fs : List (List ℕ)) (e : framesOf tex
         sym (take-append-drop (r .used) (r .bytes)) ∙ ap (λ (l : List ℕ). l ++ tail) (h .packed ∙ ap pack (k .frames-are)) in
         record {
           legal = L;
+          sized = P .starts .kept .size ∙ known .shape-size;
           tables = o .tables ∙ s .tables;
           keys = o .keys ∙ s .keys;
           relations = o .relations ∙ s .relations;

@@ -37,7 +37,7 @@ fn concluded(end: u64, n: u64) -> Answer
 // A look at an accepted file of n candidates.
 fn looked(
     bytes: &[u8],
-    shape: &[u8],
+    shape: &mut [u8],
     ends: &[i32],
     o: Outline,
     goal: Goal,
@@ -81,11 +81,11 @@ pub fn look_at(p: Plan, start: u64, count: u64, work: &mut [i32], instance: &mut
         return Answer::Refused(p.number, p.line);
     }
     let bytes = p.bytes;
-    let shape = p.shape;
+    let mut shape = p.shape;
     let ends = p.ends;
     looked(
         &bytes,
-        &shape,
+        &mut shape,
         &ends,
         p.outline,
         p.goal,

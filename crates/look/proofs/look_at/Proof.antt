@@ -31,8 +31,8 @@ same-length-2 c = search needs
 
 returns-3 : tie.Need-returns-3
 returns-3 c =
-    at-file (search needs) (search needs) (omega arith) (search needs)
-    (c .before .before .looked .ensures)
+    at-file (search needs) (search needs) (omega arith) (c .before .before .before .before .before .before .before .before .before .before .before .before .if2 .left)
+    (c .before .before .before .looked .ensures)
 
 pub look-at-spec : {M : Type 1} → statement M
 look-at-spec =

@@ -42,11 +42,11 @@ same-length-2 c = search needs
 
 returns-2 : tie.Need-returns-2
 returns-2 c =
-    accepted-trial (fileOf (c .before .before .before .before .before .before .before .before .before .before .before .before .before .before .before .before .args .text .now))
-    (c .before .before .before .before .before .before .before .before .before .before .before .before .before .check .result)
-    (c .before .before .before .before .before .before .before .before .before .before .before .before .before .check .ensures)
-    (c .before .before .before .before .before .before .before .before .before .before .before .if1 .left)
-    (c .before .before .before .before .every-relation .ensures) (rw (c .if2 .taken))
+    accepted-trial (fileOf (c .before .before .before .before .before .before .before .before .before .before .before .before .before .before .before .before .before .args .text .now))
+    (c .before .before .before .before .before .before .before .before .before .before .before .before .before .before .check .result)
+    (c .before .before .before .before .before .before .before .before .before .before .before .before .before .before .check .ensures)
+    (c .before .before .before .before .before .before .before .before .before .before .before .before .if1 .left)
+    (c .before .before .before .before .before .every-relation .ensures) (rw (c .if2 .taken))
 
 same-length-3 : tie.Need-same-length-3
 same-length-3 c = search needs
@@ -56,11 +56,11 @@ same-length-4 c = search needs
 
 returns-3 : tie.Need-returns-3
 returns-3 c =
-    accepted-trial (fileOf (c .before .before .before .before .before .before .before .before .before .before .before .before .before .before .before .before .args .text .now))
-    (c .before .before .before .before .before .before .before .before .before .before .before .before .before .check .result)
-    (c .before .before .before .before .before .before .before .before .before .before .before .before .before .check .ensures)
-    (c .before .before .before .before .before .before .before .before .before .before .before .if1 .left)
-    (c .before .before .before .before .every-relation .ensures) (rw (c .if2 .left))
+    accepted-trial (fileOf (c .before .before .before .before .before .before .before .before .before .before .before .before .before .before .before .before .before .args .text .now))
+    (c .before .before .before .before .before .before .before .before .before .before .before .before .before .before .check .result)
+    (c .before .before .before .before .before .before .before .before .before .before .before .before .before .before .check .ensures)
+    (c .before .before .before .before .before .before .before .before .before .before .before .before .if1 .left)
+    (c .before .before .before .before .before .every-relation .ensures) (rw (c .if2 .left))
 
 pub sakthveim-evaluate-spec : {M : Type 1} → statement M
 sakthveim-evaluate-spec =

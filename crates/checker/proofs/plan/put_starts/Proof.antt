@@ -1,8 +1,6 @@
 -- `checker::plan::put_starts` meets its contract. Assumes nothing.
-use mathlib.Core.Path.{_≡_, refl}
 use Prim.Native.Nat.{_-_, _≤_}
 use native.Mathlib.Omega.{arith}
-use lib.ListN.{length}
 use borrow.Author.Needs.{needs}
 use Rattle.checker.specs.Plans.{StartsPut}
 use Rattle.checker.proofs.WalkLaws.{starts-none, starts-more, starts-full}
@@ -34,7 +32,11 @@ loop-less : tie.Need-loop-less Inv-loop μ-loop
 loop-less c = omega arith
 
 loop-again : tie.Need-loop-again Inv-loop μ-loop
-loop-again c = (omega arith, starts-more _ _ _ _ _ _ _ _ _ (omega arith) (c .before .before .before .before .before .before .before .loop .inv .1) (c .before .before .before .before .before .frame-of .ensures .0) (c .before .before .before .before .start-of .ensures) (c .before .before .put-start .ensures))
+loop-again c = (
+  omega arith,
+  starts-more _ _ _ _ _ _ _ _ _ (omega arith) (c .before .before .before .before .before .before .before .loop .inv .1)
+      (c .before .before .before .before .before .frame-of .ensures .0) (c .before .before .before .before .start-of .ensures) (c .before .before .put-start .ensures),
+)
 
 same-length : tie.Need-same-length Inv-loop μ-loop
 same-length c = c .before .loop .inv .1 .kept .size
