@@ -1,87 +1,125 @@
--- Flags that are set: one, and those of the relations that are named. Assumes nothing.
+-- Flags that are set: one, those of the relations that are named, and those of all. Assumes nothing.
 use mathlib.Core.Path.{_≡_, refl, sym, ap, subst, _∙_}
+use mathlib.Core.Bool.{Bool, true, false, true≢false}
 use mathlib.Core.List.{List, [], _∷_, _++_}
-use Prim.Native.Nat.{ℕ, zero, suc, _+_, _≤_, _<_}
+use Prim.Native.Nat.{ℕ, zero, suc, _+_, _*_, _≤_, _<_}
 use native.Mathlib.Omega.{arith}
 use lib.Dec.{eqb}
-use lib.ListN.{length, getD, set, take, length-set}
+use lib.ListN.{length, getD, set, take}
 use lib.Seq.{take-suc, take-all, getD-set-same, getD-set-other}
 use borrow.Author.Tests.{eqb-true, eqb-false}
 use Rattle.value.specs.Bag.{All}
 use Rattle.value.proofs.Decides.{by-test}
 use Rattle.value.proofs.Values.{all-map}
 use Rattle.meaning.proofs.Elements.{all-append, all-before, all-here}
-use Rattle.cases.specs.Needs.{Flag, More, NamesSet}
+use Rattle.meaning.proofs.Stacks.{by-lt}
+use Rattle.catalog.specs.Arrays.{setNeeded, setAsked}
+use Rattle.catalog.proofs.ArrayLaws.{first-same, first-more, first-set}
+use Rattle.cases.specs.Needs.{Flag, flagOf, More, NamesSet, AllSet}
 
 -- ---- flags only grow
 
-pub more-same : (flags : List ℕ) → More flags flags
-more-same flags = record { size = refl; kept = λ i f. f }
+pub more-same : (shape : List ℕ) → More shape shape
+more-same shape = record { first = first-same 6 shape; kept = λ m i f. f }
 
 pub more-more : {a b c : List ℕ} → More a b → More b c → More a c
-more-more p q = record { size = q .size ∙ p .size; kept = λ i f. q .kept i (p .kept i f) }
+more-more p q = record { first = first-more (p .first) (q .first); kept = λ m i f. q .kept m i (p .kept m i f) }
 
-pub more-all : {flags flags′ is : List ℕ} → More flags flags′ → All (Flag flags) is → All (Flag flags′) is
-more-all m h = all-map (λ i f. m .kept i f) h
+pub more-all : {m : ℕ} {shape shape′ is : List ℕ} → More shape shape′ → All (Flag m shape) is → All (Flag m shape′) is
+more-all {m} h a = all-map (λ i f. h .kept m i f) a
 
 -- a flag by the number at its place
-pub flag-as : {flags flags′ : List ℕ} (i : ℕ) → getD flags′ i 0 ≡ getD flags i 0 → Flag flags′ i → Flag flags i
+pub flag-as : {m : ℕ} {shape shape′ : List ℕ} (i : ℕ) → getD shape′ (8 * i + m) 0 ≡ getD shape (8 * i + m) 0 → Flag m shape′ i → Flag m shape i
 flag-as i e f = record { on = sym e ∙ f .on }
 
-pub no-flag : {flags : List ℕ} {i b : ℕ} → b ≡ getD flags i 0 → (b ≡ 1 → ⊥) → Flag flags i → ⊥
-no-flag e n f = n (e ∙ f .on)
+pub no-flag : {m i : ℕ} {shape : List ℕ} {b : Bool} → b ≡ eqb (getD shape (8 * i + m) 0) 1 → b ≡ false → Flag m shape i → ⊥
+no-flag e n f = true≢false (sym (sym n ∙ e ∙ ap (λ k. eqb k 1) (f .on)))
+
+-- the two flags are behind the first six bytes
+pub flag-low : (asked : Bool) → 6 ≤ flagOf asked
+flag-low true = omega arith
+flag-low false = omega arith
+
+pub flag-high : (asked : Bool) → flagOf asked < 8
+flag-high true = omega arith
+flag-high false = omega arith
 
 -- ---- one flag
 
-flag-put : (flags : List ℕ) (i : ℕ) → i < length flags → Flag (set flags i 1) i
-flag-put flags i h = record { on = getD-set-same flags i 1 0 h }
+inside : (l : List ℕ) (k : ℕ) → getD l k 0 ≡ 1 → k < length l
+inside [] k e = absurd (omega arith)
+inside (x ∷ l) zero e = omega arith
+inside (x ∷ l) (suc k) e = let h = inside l k e in omega arith
 
-pub more-put : (flags : List ℕ) (i : ℕ) → More flags (set flags i 1)
-more-put flags i = record {
-  size = length-set flags i 1;
-  kept = λ j f. by-test (eqb j i)
-      (λ t. let e : j ≡ i = eqb-true j i t in rw e (flag-put flags i (inside i (rw e at f))))
-      (λ t. record { on = getD-set-other flags i j 1 0 (eqb-false j i t) ∙ f .on });
+more-put : (shape : List ℕ) (i m : ℕ) → 6 ≤ m → m < 8 → More shape (set shape (8 * i + m) 1)
+more-put shape i m h l = record {
+  first = first-set 6 shape i m 1 h l;
+  kept = λ n j f. by-test (eqb (8 * j + n) (8 * i + m))
+      (λ t. let e : 8 * j + n ≡ 8 * i + m = eqb-true (8 * j + n) (8 * i + m) t in
+      let was : getD shape (8 * i + m) 0 ≡ 1 = sym (ap (λ k. getD shape k 0) e) ∙ f .on in
+      record { on = ap (λ k. getD (set shape (8 * i + m) 1) k 0) e ∙ getD-set-same shape (8 * i + m) 1 0 (inside shape (8 * i + m) was) })
+      (λ t. record { on = getD-set-other shape (8 * i + m) (8 * j + n) 1 0 (eqb-false (8 * j + n) (8 * i + m) t) ∙ f .on });
 }
-  where
-    inside : (j : ℕ) → Flag flags j → j < length flags
-    inside j f = go flags j (f .on)
-      where
-        go : (l : List ℕ) (k : ℕ) → getD l k 0 ≡ 1 → k < length l
-        go [] k e = absurd (omega arith)
-        go (x ∷ l) zero e = omega arith
-        go (x ∷ l) (suc k) e = let h = go l k e in omega arith
 
 -- as the code puts it
-pub flag-set : (flags : List ℕ) {flags′ : List ℕ} (i : ℕ) → flags′ ≡ set flags i 1 → i < length flags → Flag flags′ i
-flag-set flags i e h = rw e (flag-put flags i h)
+module _ (m : ℕ) (low : 6 ≤ m) (high : m < 8) (shape : List ℕ) {shape′ : List ℕ} (i : ℕ) (e : shape′ ≡ set shape (8 * i + m) 1) where
+  pub more-set : More shape shape′
+  more-set = rw e (more-put shape i m low high)
 
-pub more-set : (flags : List ℕ) {flags′ : List ℕ} (i : ℕ) → flags′ ≡ set flags i 1 → More flags flags′
-more-set flags i e = rw e (more-put flags i)
+  pub flag-set : length shape ≡ 128 → i < 16 → Flag m shape′ i
+  flag-set z h = record { on = ap (λ (l : List ℕ). getD l (8 * i + m) 0) e ∙ getD-set-same shape (8 * i + m) 1 0 (omega arith) }
 
 -- ---- the flags of the relations that are named, one more in each turn
 
-pub names-none : (is flags : List ℕ) → NamesSet (take 0 is) flags flags
-names-none is flags = record { more = more-same flags; named = λ h. All.nil; others = λ i h. refl }
+pub names-none : (m : ℕ) (is shape : List ℕ) → NamesSet m (take 0 is) shape shape
+names-none m is shape = record { more = more-same shape; named = λ z h. All.nil; others = λ k h. refl }
 
-names-last : (is flags flags′ flags″ : List ℕ) (b : ℕ) → NamesSet is flags flags′ → flags″ ≡ set flags′ b 1 → NamesSet (is ++ (b ∷ [])) flags flags″
-names-last is flags flags′ flags″ b s e = record {
-  more = more-more (s .more) (more-set flags′ b e);
-  named = λ h.
-      let before : All (Flag flags″) is = more-all (more-set flags′ b e) (s .named (all-before is (b ∷ []) h)) in
-      let last : Flag flags″ b = flag-set flags′ b e (omega (arith, s .more .size, all-here is b [] h)) in
-      all-append before (All.cons last All.nil);
-  others = λ i h.
-      ap (λ (l : List ℕ). getD l i 0) e ∙ getD-set-other flags′ b i 1 0 (λ q. all-here is b [] h (sym q)) ∙ s .others i (all-before is (b ∷ []) h);
-}
+module _ (m : ℕ) (low : 6 ≤ m) (high : m < 8) where
+  names-last : (is shape shape′ shape″ : List ℕ) (b : ℕ) → NamesSet m is shape shape′ → shape″ ≡ set shape′ (8 * b + m) 1 → NamesSet m (is ++ (b ∷ [])) shape shape″
+  names-last is shape shape′ shape″ b s e =
+      let one = more-set m low high shape′ b e in
+      record {
+        more = more-more (s .more) one;
+        named = λ z h.
+            let before : All (Flag m shape″) is = more-all one (s .named z (all-before is (b ∷ []) h)) in
+            let last : Flag m shape″ b = flag-set m low high shape′ b e (s .more .first .size ∙ z) (all-here is b [] h) in
+            all-append before (All.cons last All.nil);
+        others = λ k h.
+            ap (λ (l : List ℕ). getD l k 0) e ∙ getD-set-other shape′ (8 * b + m) k 1 0 (all-here is b [] h) ∙ s .others k (all-before is (b ∷ []) h);
+      }
 
-pub names-more : (is : List ℕ) (n : ℕ) (flags flags′ flags″ : List ℕ) (b : ℕ) → n < length is → NamesSet (take n is) flags flags′ → b ≡ getD is n 0
-    → flags″ ≡ set flags′ b 1 → NamesSet (take (n + 1) is) flags flags″
-names-more is n flags flags′ flags″ b h s r e =
-    let m : n + 1 ≡ suc n = omega arith in
-    let split : take (n + 1) is ≡ take n is ++ (b ∷ []) =
-    ap (λ k. take k is) m ∙ take-suc is n 0 h ∙ ap (λ x. take n is ++ (x ∷ [])) (sym r) in
-    subst (λ (l : List ℕ). NamesSet l flags flags″) (sym split) (names-last (take n is) flags flags′ flags″ b s e)
+  pub names-more : (is : List ℕ) (n : ℕ) (shape shape′ shape″ : List ℕ) (b : ℕ) → n < length is → NamesSet m (take n is) shape shape′ → b ≡ getD is n 0
+      → shape″ ≡ set shape′ (8 * b + m) 1 → NamesSet m (take (n + 1) is) shape shape″
+  names-more is n shape shape′ shape″ b h s r e =
+      let k : n + 1 ≡ suc n = omega arith in
+      let split : take (n + 1) is ≡ take n is ++ (b ∷ []) =
+      ap (λ j. take j is) k ∙ take-suc is n 0 h ∙ ap (λ x. take n is ++ (x ∷ [])) (sym r) in
+      subst (λ (l : List ℕ). NamesSet m l shape shape″) (sym split) (names-last (take n is) shape shape′ shape″ b s e)
 
-pub names-all : {is flags flags′ : List ℕ} {n : ℕ} → length is ≤ n → NamesSet (take n is) flags flags′ → NamesSet is flags flags′
-names-all {is} {flags} {flags′} {n} h s = subst (λ (l : List ℕ). NamesSet l flags flags′) (take-all n is h) s
+pub names-all : {m : ℕ} {is shape shape′ : List ℕ} {n : ℕ} → length is ≤ n → NamesSet m (take n is) shape shape′ → NamesSet m is shape shape′
+names-all {m} {is} {shape} {shape′} {n} h s = subst (λ (l : List ℕ). NamesSet m l shape shape′) (take-all n is h) s
+
+-- ---- both flags of the first relations
+
+pub all-none : (shape : List ℕ) → AllSet 0 shape shape
+all-none shape = record { more = more-same shape; flag = λ z a i h. absurd (omega arith) }
+
+pub all-more : {n : ℕ} {shape shape₁ shape₂ shape₃ : List ℕ} → n < 16 → AllSet n shape shape₁ → shape₂ ≡ setNeeded shape₁ n → shape₃ ≡ setAsked shape₂ n
+    → AllSet (n + 1) shape shape₃
+all-more {n} {shape} {shape₁} {shape₂} {shape₃} l s e q =
+    let rows : More shape₁ shape₂ = more-set 6 (omega arith) (omega arith) shape₁ n e in
+    let signs : More shape₂ shape₃ = more-set 7 (omega arith) (omega arith) shape₂ n q in
+    let here : length shape ≡ 128 → (asked : Bool) → Flag (flagOf asked) shape₃ n = λ z asked. one z asked rows signs in
+    record {
+      more = more-more (s .more) (more-more rows signs);
+      flag = λ z asked i h. by-lt i n
+          (λ _ k. signs .kept (flagOf asked) i (rows .kept (flagOf asked) i (s .flag z asked i k)))
+          (λ _ k. let j : n ≡ i = omega arith in subst (Flag (flagOf asked) shape₃) j (here z asked));
+    }
+  where
+    one : length shape ≡ 128 → (asked : Bool) → More shape₁ shape₂ → More shape₂ shape₃ → Flag (flagOf asked) shape₃ n
+    one z true a b = flag-set 7 (omega arith) (omega arith) shape₂ n q (a .first .size ∙ s .more .first .size ∙ z) l
+    one z false a b = b .kept 6 n (flag-set 6 (omega arith) (omega arith) shape₁ n e (s .more .first .size ∙ z) l)
+
+pub all-full : {n : ℕ} {shape shape′ : List ℕ} → 16 ≤ n → AllSet n shape shape′ → AllSet 16 shape shape′
+all-full h s = record { more = s .more; flag = λ z a i l. s .flag z a i (omega arith) }

@@ -19,6 +19,7 @@ use Rattle.meaning.specs.Valid.{InRange}
 use Rattle.meaning.specs.Decided.{valid, hasRow, someRow, negative, wanted, isCase}
 use Rattle.meaning.proofs.DecidedLists.{each-length}
 use Rattle.meaning.proofs.Relations.{rows-table}
+use Rattle.catalog.specs.Arrays.{neededAt, askedAt}
 use Rattle.catalog.specs.Frames.{frameIn}
 use Rattle.catalog.specs.FileIn.{FileIn, goalOf}
 use Rattle.catalog.specs.declared.outline.Outline.{Outline}
@@ -27,26 +28,27 @@ use Rattle.catalog.proofs.FileLaws.{width-is, columns-are}
 use Rattle.store.specs.Rows.{rowsIn}
 use Rattle.store.proofs.RowLaws.{rows-length}
 use Rattle.views.proofs.Copying.{apart-same}
-use Rattle.cases.specs.Needs.{Flag}
+use Rattle.cases.specs.Needs.{Needed, Asked}
 use Rattle.cases.specs.Relations.{columnsOf, ViewRows, IsRefuted}
 use Rattle.cases.specs.Validity.{IsValid}
 use Rattle.cases.specs.Judgement.{SignNoted, RowsNoted, Known, Ready, TablesKept, Evaluates, IsWanted, IsCase}
 use Rattle.cases.proofs.SignLaws.{positive}
+use Rattle.cases.proofs.FlagLaws.{no-flag}
 use Rattle.cases.proofs.Turns.{turn-known}
 
 -- ---- notes
 
-module _ {frame asked counts refuted : List ℕ} {work : List ℤ} {v : ℕ} where
-  pub sign-unasked : {b : ℕ} → b ≡ getD asked v 0 → (b ≡ 1 → ⊥) → SignNoted frame asked counts refuted work v refuted work
+module _ {frame shape counts refuted : List ℕ} {work : List ℤ} {v : ℕ} where
+  pub sign-unasked : {b : Bool} → b ≡ eqb (askedAt shape v) 1 → b ≡ false → SignNoted frame shape counts refuted work v refuted work
   sign-unasked e h = record {
     apart = apart-same v work;
     size = refl;
     others = λ i n. refl;
-    noted = λ f l. absurd (h (e ∙ f .on));
+    noted = λ f l. absurd (no-flag e h f);
   }
 
   pub sign-noted : {r : Bool} {work′ : List ℤ} {refuted′ : List ℕ} {b : ℕ} → IsRefuted frame counts refuted work v r work′ → b ≡ tick r 0 → refuted′ ≡ set refuted v b
-      → SignNoted frame asked counts refuted work v refuted′ work′
+      → SignNoted frame shape counts refuted work v refuted′ work′
   sign-noted {r} {b = b} R q e = record {
     apart = R .apart;
     size = rw e (length-set refuted v b);
@@ -54,17 +56,17 @@ module _ {frame asked counts refuted : List ℕ} {work : List ℤ} {v : ℕ} whe
     noted = λ f l. (r, R, rw e (getD-set-same refuted v b 0 l) ∙ q ∙ tick-one r);
   }
 
-module _ {frame shape needed counts : List ℕ} {work : List ℤ} {v : ℕ} where
-  pub rows-unneeded : {b : ℕ} → b ≡ getD needed v 0 → (b ≡ 1 → ⊥) → RowsNoted frame shape needed counts work v counts work
+module _ {frame shape counts : List ℕ} {work : List ℤ} {v : ℕ} where
+  pub rows-unneeded : {b : Bool} → b ≡ eqb (neededAt shape v) 1 → b ≡ false → RowsNoted frame shape counts work v counts work
   rows-unneeded e h = record {
     apart = apart-same v work;
     size = refl;
     others = λ i n. refl;
-    noted = λ f l. absurd (h (e ∙ f .on));
+    noted = λ f l. absurd (no-flag e h f);
   }
 
   pub rows-noted : {n : ℕ} {work′ : List ℤ} {counts′ : List ℕ} → ViewRows frame shape counts work v n work′ → counts′ ≡ set counts v n
-      → RowsNoted frame shape needed counts work v counts′ work′
+      → RowsNoted frame shape counts work v counts′ work′
   rows-noted {n} {work′} A e = record {
     apart = A .apart;
     size = rw e (length-set counts v n);
@@ -75,19 +77,19 @@ module _ {frame shape needed counts : List ℕ} {work : List ℤ} {v : ℕ} wher
 -- ---- the loop
 
 -- the views before v are worked out
-pub record Turned (bytes starts shape needed asked : List ℕ) (o : Outline) (counts refuted : List ℕ) (work : List ℤ) (counts′ refuted′ : List ℕ) (work′ : List ℤ) (v : ℕ) : Type 0 where
+pub record Turned (bytes shape : List ℕ) (o : Outline) (counts refuted : List ℕ) (work : List ℤ) (counts′ refuted′ : List ℕ) (work′ : List ℤ) (v : ℕ) : Type 0 where
   pub first : o .tables ≤ v
   pub kept : TablesKept (o .tables) counts work counts′ work′
   pub refuted-size : length refuted′ ≡ length refuted
-  pub known : {F : File} {g : Goal} {d : Database} {ends : List ℤ} → FileIn F bytes starts shape ends o → Ready F g d needed asked counts refuted work
-      → Known F d needed asked counts′ refuted′ work′ v
+  pub known : {F : File} {g : Goal} {d : Database} {ends : List ℤ} → FileIn F bytes shape ends o → Ready F g d shape counts refuted work
+      → Known F d shape counts′ refuted′ work′ v
 
 kept-same : (tables : ℕ) (counts : List ℕ) (work : List ℤ) → TablesKept tables counts work counts work
 kept-same tables counts work = record { size = refl; table = λ t w n h. refl; counts-size = refl; count = λ t h. refl }
 
 -- the tables are known
-tables-known : {F : File} {g : Goal} {d : Database} {bytes starts shape needed asked : List ℕ} {ends : List ℤ} {o : Outline} {counts refuted : List ℕ} {work : List ℤ}
-    → FileIn F bytes starts shape ends o → Ready F g d needed asked counts refuted work → (v : ℕ) → v ≤ length (F .tables) → Known F d needed asked counts refuted work v
+tables-known : {F : File} {g : Goal} {d : Database} {bytes shape : List ℕ} {ends : List ℤ} {o : Outline} {counts refuted : List ℕ} {work : List ℤ}
+    → FileIn F bytes shape ends o → Ready F g d shape counts refuted work → (v : ℕ) → v ≤ length (F .tables) → Known F d shape counts refuted work v
 tables-known {F} {d = d} {counts = counts} {work = work} G R v h = record {
   rows-known = λ i l f.
       let there : i < length (F .tables) = omega arith in
@@ -96,8 +98,8 @@ tables-known {F} {d = d} {counts = counts} {work = work} G R v h = record {
   signs-known = λ i t l f. absurd (omega arith);
 }
 
-module _ {bytes starts shape needed asked : List ℕ} {o : Outline} {counts refuted : List ℕ} {work : List ℤ} where
-  pub turned-none : Turned bytes starts shape needed asked o counts refuted work counts refuted work (o .tables)
+module _ {bytes shape : List ℕ} {o : Outline} {counts refuted : List ℕ} {work : List ℤ} where
+  pub turned-none : Turned bytes shape o counts refuted work counts refuted work (o .tables)
   turned-none = record {
     first = omega arith;
     kept = kept-same (o .tables) counts work;
@@ -105,10 +107,10 @@ module _ {bytes starts shape needed asked : List ℕ} {o : Outline} {counts refu
     known = λ G R. tables-known G R (o .tables) (omega (arith, G .tables));
   }
 
-  pub turned-more : {counts₁ refuted₁ : List ℕ} {work₁ : List ℤ} {v : ℕ} {frame : List ℕ} → Turned bytes starts shape needed asked o counts refuted work counts₁ refuted₁ work₁ v
-      → v < o .relations → frame ≡ frameIn bytes starts v → {refuted₂ : List ℕ} {work₂ : List ℤ} → SignNoted frame asked counts₁ refuted₁ work₁ v refuted₂ work₂
-      → {counts₂ : List ℕ} {work₃ : List ℤ} → RowsNoted frame shape needed counts₁ work₂ v counts₂ work₃
-      → Turned bytes starts shape needed asked o counts refuted work counts₂ refuted₂ work₃ (v + 1)
+  pub turned-more : {counts₁ refuted₁ : List ℕ} {work₁ : List ℤ} {v : ℕ} {frame : List ℕ} → Turned bytes shape o counts refuted work counts₁ refuted₁ work₁ v
+      → v < o .relations → frame ≡ frameIn bytes shape v → {refuted₂ : List ℕ} {work₂ : List ℤ} → SignNoted frame shape counts₁ refuted₁ work₁ v refuted₂ work₂
+      → {counts₂ : List ℕ} {work₃ : List ℤ} → RowsNoted frame shape counts₁ work₂ v counts₂ work₃
+      → Turned bytes shape o counts refuted work counts₂ refuted₂ work₃ (v + 1)
   turned-more {v = v} T l here {refuted₂} {work₂} S {counts₂} {work₃} N = record {
     first = omega (arith, T .first);
     kept = record {
@@ -125,8 +127,8 @@ module _ {bytes starts shape needed asked : List ℕ} {o : Outline} {counts refu
         (T .refuted-size ∙ R .refuted-size) v (omega (arith, T .first, G .tables)) (omega (arith, G .relations)) here (T .known G R) S N);
   }
 
-  pub turned-all : {counts₁ refuted₁ : List ℕ} {work₁ : List ℤ} {v : ℕ} → Turned bytes starts shape needed asked o counts refuted work counts₁ refuted₁ work₁ v
-      → o .relations ≤ v → Evaluates bytes starts shape needed asked o counts refuted work counts₁ refuted₁ work₁
+  pub turned-all : {counts₁ refuted₁ : List ℕ} {work₁ : List ℤ} {v : ℕ} → Turned bytes shape o counts refuted work counts₁ refuted₁ work₁ v
+      → o .relations ≤ v → Evaluates bytes shape o counts refuted work counts₁ refuted₁ work₁
   turned-all {counts₁} {refuted₁} {work₁} {v} T h = record {
     kept = T .kept;
     refuted-size = T .refuted-size;
@@ -171,16 +173,16 @@ filled-rows : {ts : List Table} {d : Database} → Each InRange ts d → any has
 filled-rows Each.nil = refl
 filled-rows (Each.cons p ps) = ap₂ _||_ (ap isPos (p .rows)) (filled-rows ps)
 
-module _ {bytes starts shape needed asked : List ℕ} {o : Outline} {g : GoalHere} {counts refuted : List ℕ} {work : List ℤ} where
+module _ {bytes shape : List ℕ} {o : Outline} {g : GoalHere} {counts refuted : List ℕ} {work : List ℤ} where
   -- a database with no rows, or one that is not valid, is no case
-  pub case-empty : o .filled ≡ false → IsCase bytes starts shape needed asked o g counts refuted work false counts refuted work
+  pub case-empty : o .filled ≡ false → IsCase bytes shape o g counts refuted work false counts refuted work
   case-empty h = record {
     kept = kept-same (o .tables) counts work;
     refuted-size = refl;
     case = λ {F} {d} G R. no-row F (goalOf g) d (filled-rows (R .shaped) ∙ sym (G .filled) ∙ h);
   }
 
-  pub case-invalid : {b : Bool} → IsValid bytes shape o counts work b → b ≡ false → IsCase bytes starts shape needed asked o g counts refuted work false counts refuted work
+  pub case-invalid : {b : Bool} → IsValid bytes shape o counts work b → b ≡ false → IsCase bytes shape o g counts refuted work false counts refuted work
   case-invalid ok h = record {
     kept = kept-same (o .tables) counts work;
     refuted-size = refl;
@@ -188,8 +190,8 @@ module _ {bytes starts shape needed asked : List ℕ} {o : Outline} {g : GoalHer
   }
 
   pub case-valid : {b r : Bool} {counts′ refuted′ : List ℕ} {work′ : List ℤ} → o .filled ≡ true → IsValid bytes shape o counts work b → b ≡ true
-      → Evaluates bytes starts shape needed asked o counts refuted work counts′ refuted′ work′ → IsWanted g counts′ refuted′ r
-      → IsCase bytes starts shape needed asked o g counts refuted work r counts′ refuted′ work′
+      → Evaluates bytes shape o counts refuted work counts′ refuted′ work′ → IsWanted g counts′ refuted′ r
+      → IsCase bytes shape o g counts refuted work r counts′ refuted′ work′
   case-valid {r = r} {counts′} {refuted′} {work′} f ok h E X = record {
     kept = E .kept;
     refuted-size = E .refuted-size;
@@ -198,8 +200,8 @@ module _ {bytes starts shape needed asked : List ℕ} {o : Outline} {g : GoalHer
         (wanted-is R (E .known G R));
   }
     where
-      wanted-is : {F : File} {d : Database} → Ready F (goalOf g) d needed asked counts refuted work
-          → Known F d needed asked counts′ refuted′ work′ (length (F .tables) + length (F .views)) → r ≡ wanted F d (goalOf g)
+      wanted-is : {F : File} {d : Database} → Ready F (goalOf g) d shape counts refuted work
+          → Known F d shape counts′ refuted′ work′ (length (F .tables) + length (F .views)) → r ≡ wanted F d (goalOf g)
       wanted-is {F} {d} R K =
           let v = g .view in
           let first = R .covers .view .behind in
@@ -207,8 +209,8 @@ module _ {bytes starts shape needed asked : List ℕ} {o : Outline} {g : GoalHer
           let A = negative F d (suc v) v in
           let B = hasRow (rows F d v) in
           by-test (g .negative)
-          (λ e. let flag : Flag asked v = rw e at (R .covers .goal) in
+          (λ e. let flag : Asked shape v = rw e at (R .covers .goal) in
           X .by-sign A e (K .signs-known v first last flag) ∙ sym (ap (λ b. cond b A B) e))
-          (λ e. let flag : Flag needed v = rw e at (R .covers .goal) in
+          (λ e. let flag : Needed shape v = rw e at (R .covers .goal) in
           let size : getD counts′ v 0 ≡ length (rows F d v) = sym (rows-length work′ v (columnsOf (schemas F) v) (getD counts′ v 0)) ∙ ap length (K .rows-known v last flag) in
           X .by-rows e ∙ ap isPos size ∙ sym (ap (λ b. cond b A B) e))

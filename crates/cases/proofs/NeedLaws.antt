@@ -1,9 +1,9 @@
 -- The relations that a goal depends on. Assumes nothing.
 use mathlib.Core.Path.{_≡_, refl, sym, ap, subst, _∙_}
-use mathlib.Core.Bool.{Bool, true, false}
+use mathlib.Core.Bool.{true, false}
 use mathlib.Core.List.{List}
 use mathlib.Core.Option.{some}
-use Prim.Native.Nat.{ℕ, _-_, _≤_, _<_}
+use Prim.Native.Nat.{ℕ, _+_, _*_, _-_, _≤_, _<_}
 use native.Mathlib.Omega.{arith}
 use lib.Dec.{eqb}
 use lib.IntN.{ℤ}
@@ -27,85 +27,68 @@ use Rattle.catalog.specs.Frames.{frameIn, namesIn}
 use Rattle.catalog.specs.FileIn.{FileIn}
 use Rattle.catalog.specs.declared.outline.Outline.{Outline}
 use Rattle.catalog.specs.declared.plan.Goal.{Goal as GoalHere}
+use Rattle.catalog.proofs.FileLaws.{file-kept}
 use Rattle.catalog.proofs.ViewParts.{view-parts}
-use Rattle.cases.specs.Needs.{Flag, Asks, Wants, ownConditions, More, NamesSet, NeedsRows, NeedsSigns, NeedsGoal, NeedsOf}
+use Rattle.cases.specs.Needs.{Flag, flagOf, Needed, Asked, Asks, ownConditions, More, NamesSet, NeedsRows, NeedsSigns, NeedsOf}
 use Rattle.cases.proofs.ViewKinds.{kind-own, kind-set}
-use Rattle.cases.proofs.FlagLaws.{more-same, more-more, more-all, more-set, flag-as, flag-set}
+use Rattle.cases.proofs.FlagLaws.{more-same, more-more, more-all, more-set, flag-as, flag-low, flag-high, flag-set}
 
 -- ---- what one view needs
 
 -- where the frame is a view's, the flags of what the view names are set
-by-names : {frame is flags flags′ : List ℕ} → is ≡ namesIn frame → NamesSet is flags flags′ → (q : View) → frame ≡ viewBytes q → NamesSet (names q) flags flags′
-by-names {frame} {flags = flags} {flags′} n s q e = subst (λ (l : List ℕ). NamesSet l flags flags′) (n ∙ view-parts q frame e .1) s
+by-names : {m : ℕ} {frame is shape shape′ : List ℕ} → is ≡ namesIn frame → NamesSet m is shape shape′ → (q : View) → frame ≡ viewBytes q
+    → NamesSet m (names q) shape shape′
+by-names {m} {frame} {shape = shape} {shape′} n s q e = subst (λ (l : List ℕ). NamesSet m l shape shape′) (n ∙ view-parts q frame e .1) s
 
-pub rows-set : {frame is needed needed′ asked : List ℕ} {v : ℕ} → is ≡ namesIn frame → NamesSet is needed needed′ → NeedsRows frame needed asked v needed′
+pub rows-set : {frame is shape shape′ : List ℕ} {v : ℕ} → is ≡ namesIn frame → NamesSet 6 is shape shape′ → NeedsRows frame shape v shape′
 rows-set n s = record {
   more = s .more;
-  for-rows = λ q e h f. by-names n s q e .named h;
-  for-sign = λ q e h o f. by-names n s q e .named h;
-  others = λ q e i h. by-names n s q e .others i h;
+  for-rows = λ q e z h f. by-names n s q e .named z h;
+  for-sign = λ q e z h o f. by-names n s q e .named z h;
+  others = λ q e k h. by-names n s q e .others k h;
 }
 
-pub rows-kept : (frame needed asked : List ℕ) (v : ℕ) → (Flag needed v → ⊥) → (Flag asked v → 5 ≤ getD frame 0 0) → NeedsRows frame needed asked v needed
-rows-kept frame needed asked v n m = record {
-  more = more-same needed;
-  for-rows = λ q e h f. absurd (n f);
-  for-sign = λ q e h o f. absurd (omega (arith, m f, kind-own q e o));
-  others = λ q e i h. refl;
+pub rows-kept : (frame shape : List ℕ) (v : ℕ) → (Needed shape v → ⊥) → (Asked shape v → 5 ≤ getD frame 0 0) → NeedsRows frame shape v shape
+rows-kept frame shape v n m = record {
+  more = more-same shape;
+  for-rows = λ q e z h f. absurd (n f);
+  for-sign = λ q e z h o f. absurd (omega (arith, m f, kind-own q e o));
+  others = λ q e k h. refl;
 }
 
-pub signs-set : {frame is asked asked′ : List ℕ} {v : ℕ} → is ≡ namesIn frame → NamesSet is asked asked′ → NeedsSigns frame asked v asked′
+pub signs-set : {frame is shape shape′ : List ℕ} {v : ℕ} → is ≡ namesIn frame → NamesSet 7 is shape shape′ → NeedsSigns frame shape v shape′
 signs-set n s = record {
   more = s .more;
-  for-sign = λ q e h o f. by-names n s q e .named h;
-  others = λ q e i h. by-names n s q e .others i h;
+  for-sign = λ q e z h o f. by-names n s q e .named z h;
+  others = λ q e k h. by-names n s q e .others k h;
 }
 
-pub signs-kept : (frame asked : List ℕ) (v : ℕ) → (Flag asked v → getD frame 0 0 < 5) → NeedsSigns frame asked v asked
-signs-kept frame asked v n = record {
-  more = more-same asked;
-  for-sign = λ q e h o f. absurd (omega (arith, n f, kind-set q e o));
-  others = λ q e i h. refl;
+pub signs-kept : (frame shape : List ℕ) (v : ℕ) → (Asked shape v → getD frame 0 0 < 5) → NeedsSigns frame shape v shape
+signs-kept frame shape v n = record {
+  more = more-same shape;
+  for-sign = λ q e z h o f. absurd (omega (arith, n f, kind-set q e o));
+  others = λ q e k h. refl;
 }
-
--- ---- the goal
-
-module _ (g : GoalHere) (needed asked : List ℕ) where
-  pub goal-asked : (asked′ : List ℕ) → g .negative ≡ true → asked′ ≡ set asked (g .view) 1 → NeedsGoal g needed asked needed asked′
-  goal-asked asked′ n e =
-      record { needed-more = more-same needed; asked-more = more-set asked (g .view) e; goal = λ h k. rw n (flag-set asked (g .view) e k) }
-
-  pub goal-needed : (needed′ : List ℕ) → g .negative ≡ false → needed′ ≡ set needed (g .view) 1 → NeedsGoal g needed asked needed′ asked
-  goal-needed needed′ n e =
-      record { needed-more = more-set needed (g .view) e; asked-more = more-same asked; goal = λ h k. rw n (flag-set needed (g .view) e h) }
 
 -- ---- all views, from the last down to relation v
 
-pub record From (F : File) (v : ℕ) (needed asked : List ℕ) : Type 0 where
-  pub rows : (u : ℕ) (q : View) → v ≤ u → query (length (F .tables)) F u ≡ some q → Flag needed u → All (Flag needed) (names q)
-  pub signs : (u : ℕ) (q : View) → v ≤ u → query (length (F .tables)) F u ≡ some q → Flag asked u → Asks needed asked q
+pub record From (F : File) (v : ℕ) (shape : List ℕ) : Type 0 where
+  pub rows : (u : ℕ) (q : View) → v ≤ u → query (length (F .tables)) F u ≡ some q → Needed shape u → All (Needed shape) (names q)
+  pub signs : (u : ℕ) (q : View) → v ≤ u → query (length (F .tables)) F u ≡ some q → Asked shape u → Asks shape q
 
 -- the flags at first, and as they are
-pub record Reached (bytes starts : List ℕ) (o : Outline) (v : ℕ) (needed₀ asked₀ needed asked : List ℕ) : Type 0 where
-  pub needed-more : More needed₀ needed
-  pub asked-more : More asked₀ asked
-  pub from : {F : File} {shape : List ℕ} {ends : List ℤ} → FileIn F bytes starts shape ends o → length needed ≡ 16 → length asked ≡ 16 → From F v needed asked
+pub record Reached (bytes : List ℕ) (o : Outline) (v : ℕ) (shape₀ shape : List ℕ) : Type 0 where
+  pub more : More shape₀ shape
+  pub from : {F : File} {ends : List ℤ} → FileIn F bytes shape₀ ends o → From F v shape
 
-asks-more : {needed needed′ asked asked′ : List ℕ} → More needed needed′ → More asked asked′ → (q : View) → Asks needed asked q
-    → Asks needed′ asked′ q
-asks-more n a (View.basic fs w es) h = more-all n h
-asks-more n a (View.grouped fs w gs c es) h = more-all n h
-asks-more n a (View.set op i j) h = (a .kept i (h .0), a .kept j (h .1))
-
-wants-more : {needed needed′ asked asked′ : List ℕ} → More needed needed′ → More asked asked′ → (b : Bool) (v : ℕ) → Wants needed asked b v
-    → Wants needed′ asked′ b v
-wants-more n a true v h = a .kept v h
-wants-more n a false v h = n .kept v h
+asks-more : {shape shape′ : List ℕ} → More shape shape′ → (q : View) → Asks shape q → Asks shape′ q
+asks-more n (View.basic fs w es) h = more-all n h
+asks-more n (View.grouped fs w gs c es) h = more-all n h
+asks-more n (View.set op i j) h = (n .kept 7 i (h .0), n .kept 7 j (h .1))
 
 -- by the rows that a view's own conditions need, or by its operands' signs
-asks-all : {needed asked : List ℕ} (q : View) → (ownConditions q ≡ true → All (Flag needed) (names q))
-    → (ownConditions q ≡ false → All (Flag asked) (names q))
-    → Asks needed asked q
+asks-all : {shape : List ℕ} (q : View) → (ownConditions q ≡ true → All (Needed shape) (names q)) → (ownConditions q ≡ false → All (Asked shape) (names q))
+    → Asks shape q
 asks-all (View.basic fs w es) f g = f refl
 asks-all (View.grouped fs w gs c es) f g = f refl
 asks-all (View.set op i j) f g = let (x, h) = cons-all (g refl) in (x, cons-all h .0)
@@ -116,89 +99,94 @@ some-one e = cc
 earlier-of : (F : File) → Legal F → Stacked (length (F .tables)) F
 earlier-of F l = stacked F (rules F (legal-wellFormed F l) .earlier-views)
 
-pub reached-none : {bytes starts : List ℕ} (o : Outline) (needed asked : List ℕ) → Reached bytes starts o (o .relations) needed asked needed asked
-reached-none o needed asked = record {
-  needed-more = more-same needed;
-  asked-more = more-same asked;
-  from = λ {F} G n a.
+pub reached-none : {bytes : List ℕ} (o : Outline) (shape : List ℕ) → Reached bytes o (o .relations) shape shape
+reached-none o shape = record {
+  more = more-same shape;
+  from = λ {F} G.
       let past : (u : ℕ) (q : View) → o .relations ≤ u → query (length (F .tables)) F u ≡ some q → ⊥ =
       λ u q h e. let x = query-split (length (F .tables)) F u q e in omega (arith, x .2, h, G .relations) in
       record { rows = λ u q h e f. absurd (past u q h e); signs = λ u q h e f. absurd (past u q h e) };
 }
 
-module _ {bytes starts : List ℕ} {o : Outline} {v : ℕ} {needed₀ asked₀ needed needed′ asked asked′ frame : List ℕ} (h : o .tables < v) (l : v ≤ o .relations)
-    (r : Reached bytes starts o v needed₀ asked₀ needed asked) (place : frame ≡ frameIn bytes starts (v - 1))
-    (x : NeedsRows frame needed asked (v - 1) needed′) (y : NeedsSigns frame asked (v - 1) asked′) where
-  module _ {F : File} {shape : List ℕ} {ends : List ℤ} (G : FileIn F bytes starts shape ends o) (n : length needed′ ≡ 16) (a : length asked′ ≡ 16) where
+-- a flag of a relation behind those that are named is as it was
+behind : {v u m n : ℕ} {is : List ℕ} → All (λ i. i < v) is → v ≤ u → m < 8 → n < 8 → All (λ j. 8 * u + m ≡ 8 * j + n → ⊥) is
+behind h k a b = all-map (λ j l e. omega arith) h
+
+module _ {bytes : List ℕ} {o : Outline} {v : ℕ} {shape₀ shape shape₁ shape₂ frame : List ℕ} (h : o .tables < v) (l : v ≤ o .relations)
+    (r : Reached bytes o v shape₀ shape) (place : frame ≡ frameIn bytes shape (v - 1))
+    (x : NeedsRows frame shape (v - 1) shape₁) (y : NeedsSigns frame shape₁ (v - 1) shape₂) where
+  module _ {F : File} {ends : List ℤ} (G₀ : FileIn F bytes shape₀ ends o) where
+    G : FileIn F bytes shape ends o
+    G = file-kept G₀ (r .more .first)
+
     few : v - 1 < 16
-    few = omega (arith, h, l, G .relations, G .legal .relationCount)
+    few = omega (arith, h, l, G₀ .relations, G₀ .legal .relationCount)
 
     -- the view whose turn it is
-    turn-of : (q₀ : View) → query (length (F .tables)) F (v - 1) ≡ some q₀ → From F (v - 1) needed′ asked′
+    turn-of : (q₀ : View) → query (length (F .tables)) F (v - 1) ≡ some q₀ → From F (v - 1) shape₂
     turn-of q₀ here =
         let T = length (F .tables) in
-        let old : From F v needed asked = r .from G (sym (x .more .size) ∙ n) (sym (y .more .size) ∙ a) in
+        let old : From F v shape = r .from G₀ in
         let e : frame ≡ viewBytes q₀ = place ∙ G .views (v - 1) q₀ here in
         let below : All (λ i. i < v - 1) (names q₀) = earlier-of F (G .legal) .earlier (v - 1) q₀ here in
-        let in-needed : All (λ i. i < length needed) (names q₀) = all-map (λ i b. omega (arith, b, few, n, x .more .size)) below in
-        let in-asked : All (λ i. i < length asked) (names q₀) = all-map (λ i b. omega (arith, b, few, a, y .more .size)) below in
-        let apart : (u : ℕ) → v - 1 ≤ u → All (λ j. j ≡ u → ⊥) (names q₀) = λ u k. all-map (λ j b p. omega (arith, b, p, k)) below in
-        let was-needed : (u : ℕ) → v - 1 ≤ u → Flag needed′ u → Flag needed u = λ u k f. flag-as u (x .others q₀ e u (apart u k)) f in
-        let was-asked : (u : ℕ) → v - 1 ≤ u → Flag asked′ u → Flag asked u = λ u k f. flag-as u (y .others q₀ e u (apart u k)) f in
-        let rows-here : Flag needed′ (v - 1) → All (Flag needed′) (names q₀) = λ f. x .for-rows q₀ e in-needed (was-needed (v - 1) (omega arith) f) in
-        let signs-here : Flag asked′ (v - 1) → Asks needed′ asked′ q₀ = λ f.
+        let in-room : All (λ i. i < 16) (names q₀) = all-map (λ i b. omega (arith, b, few)) below in
+        let was-first : (m u : ℕ) → m < 8 → v - 1 ≤ u → Flag m shape₁ u → Flag m shape u = λ m u s k f.
+        flag-as u (x .others q₀ e (8 * u + m) (behind below k s (omega arith))) f in
+        let was-second : (m u : ℕ) → m < 8 → v - 1 ≤ u → Flag m shape₂ u → Flag m shape₁ u = λ m u s k f.
+        flag-as u (y .others q₀ e (8 * u + m) (behind below k s (omega arith))) f in
+        let was : (m u : ℕ) → m < 8 → v - 1 ≤ u → Flag m shape₂ u → Flag m shape u = λ m u s k f. was-first m u s k (was-second m u s k f) in
+        let self : v - 1 ≤ v - 1 = omega arith in
+        let rows-here : Needed shape₂ (v - 1) → All (Needed shape₂) (names q₀) = λ f.
+        more-all (y .more) (x .for-rows q₀ e (G .sized) in-room (was 6 (v - 1) (omega arith) self f)) in
+        let signs-here : Asked shape₂ (v - 1) → Asks shape₂ q₀ = λ f.
         asks-all q₀
-        (λ c. x .for-sign q₀ e in-needed c (was-asked (v - 1) (omega arith) f))
-        (λ c. y .for-sign q₀ e in-asked c (was-asked (v - 1) (omega arith) f)) in
+        (λ c. more-all (y .more) (x .for-sign q₀ e (G .sized) in-room c (was 7 (v - 1) (omega arith) self f)))
+        (λ c. y .for-sign q₀ e (x .more .first .size ∙ G .sized) in-room c (was-second 7 (v - 1) (omega arith) self f)) in
+        let both : More shape shape₂ = more-more (x .more) (y .more) in
         record {
           rows = λ u q k d f. by-test (eqb u (v - 1))
               (λ t. let i : u ≡ v - 1 = eqb-true u (v - 1) t in
               let j : q₀ ≡ q = some-one (sym here ∙ ap (query T F) (sym i) ∙ d) in
-              subst (λ (z : View). All (Flag needed′) (names z)) j (rows-here (subst (Flag needed′) i f)))
-              (λ t. more-all (x .more) (old .rows u q (omega (arith, k, h, eqb-false u (v - 1) t)) d (was-needed u k f)));
+              subst (λ (z : View). All (Needed shape₂) (names z)) j (rows-here (subst (Needed shape₂) i f)))
+              (λ t. more-all both (old .rows u q (omega (arith, k, h, eqb-false u (v - 1) t)) d (was 6 u (omega arith) k f)));
           signs = λ u q k d f. by-test (eqb u (v - 1))
               (λ t. let i : u ≡ v - 1 = eqb-true u (v - 1) t in
               let j : q₀ ≡ q = some-one (sym here ∙ ap (query T F) (sym i) ∙ d) in
-              subst (Asks needed′ asked′) j (signs-here (subst (Flag asked′) i f)))
-              (λ t. asks-more (x .more) (y .more) q (old .signs u q (omega (arith, k, h, eqb-false u (v - 1) t)) d (was-asked u k f)));
+              subst (Asks shape₂) j (signs-here (subst (Asked shape₂) i f)))
+              (λ t. asks-more both q (old .signs u q (omega (arith, k, h, eqb-false u (v - 1) t)) d (was 7 u (omega arith) k f)));
         }
 
-    turn : From F (v - 1) needed′ asked′
+    turn : From F (v - 1) shape₂
     turn =
         let T = length (F .tables) in
-        let (q₀, is) = getElem-some (F .views) (v - 1 - T) (omega (arith, h, l, G .tables, G .relations)) in
-        let here : query T F (v - 1) ≡ some q₀ = by-lt (v - 1) T (λ t k. absurd (omega (arith, h, G .tables))) (λ t k. rw t is) in
+        let (q₀, is) = getElem-some (F .views) (v - 1 - T) (omega (arith, h, l, G₀ .tables, G₀ .relations)) in
+        let here : query T F (v - 1) ≡ some q₀ = by-lt (v - 1) T (λ t k. absurd (omega (arith, h, G₀ .tables))) (λ t k. rw t is) in
         turn-of q₀ here
 
-  pub reached-next : Reached bytes starts o (v - 1) needed₀ asked₀ needed′ asked′
+  pub reached-next : Reached bytes o (v - 1) shape₀ shape₂
   reached-next = record {
-    needed-more = more-more (r .needed-more) (x .more);
-    asked-more = more-more (r .asked-more) (y .more);
-    from = λ G n a. turn G n a;
+    more = more-more (r .more) (more-more (x .more) (y .more));
+    from = λ G₀. turn G₀;
   }
 
-pub needs-all : {bytes starts : List ℕ} {o : Outline} {g : GoalHere} {v : ℕ} {needed₀ asked₀ needed₁ asked₁ needed asked : List ℕ}
-    → NeedsGoal g needed₀ asked₀ needed₁ asked₁ → v ≤ o .tables → Reached bytes starts o v needed₁ asked₁ needed asked
-    → NeedsOf bytes starts o g needed₀ asked₀ needed asked
-needs-all {bytes} {starts} {o} {g} {v} {needed₀} {asked₀} {needed = needed} {asked} t h r = record {
-  needed-size = n;
-  asked-size = a;
-  covers = λ {F} G W x y.
-      let f = r .from G (n ∙ x) (a ∙ y) in
+-- the goal's own flag first
+pub needs-all : {bytes : List ℕ} {o : Outline} {g : GoalHere} {v : ℕ} {shape₀ shape₁ shape : List ℕ} → shape₁ ≡ set shape₀ (8 * g .view + flagOf (g .negative)) 1
+    → v ≤ o .tables → Reached bytes o v shape₁ shape → NeedsOf bytes shape₀ o g shape
+needs-all {bytes} {o} {g} {v} {shape₀} {shape₁} {shape} e h r = record {
+  first = more-more goal (r .more) .first;
+  covers = λ {F} G W.
+      let f = r .from (file-kept G (goal .first)) in
       let few : g .view < 16 = omega (arith, W .before, G .legal .relationCount) in
       record {
         view = W;
-        goal = wants-more (r .needed-more) (r .asked-more) (g .negative) (g .view) (t .goal (omega (arith, few, x)) (omega (arith, few, y)));
-        rows = λ u q e k. f .rows u q (below G u q e) e k;
-        signs = λ u q e k. f .signs u q (below G u q e) e k;
+        goal = r .more .kept (flagOf (g .negative)) (g .view) (flag-set (flagOf (g .negative)) (flag-low (g .negative)) (flag-high (g .negative)) shape₀ (g .view) e (G .sized) few);
+        rows = λ u q d k. f .rows u q (below G u q d) d k;
+        signs = λ u q d k. f .signs u q (below G u q d) d k;
       };
 }
   where
-    n : length needed ≡ length needed₀
-    n = r .needed-more .size ∙ t .needed-more .size
+    goal : More shape₀ shape₁
+    goal = more-set (flagOf (g .negative)) (flag-low (g .negative)) (flag-high (g .negative)) shape₀ (g .view) e
 
-    a : length asked ≡ length asked₀
-    a = r .asked-more .size ∙ t .asked-more .size
-
-    below : {F : File} {shape : List ℕ} {ends : List ℤ} → FileIn F bytes starts shape ends o → (u : ℕ) (q : View) → query (length (F .tables)) F u ≡ some q → v ≤ u
-    below {F} G u q e = let x = query-split (length (F .tables)) F u q e in omega (arith, x .0, h, G .tables)
+    below : {F : File} {ends : List ℤ} → FileIn F bytes shape₀ ends o → (u : ℕ) (q : View) → query (length (F .tables)) F u ≡ some q → v ≤ u
+    below {F} G u q d = let x = query-split (length (F .tables)) F u q d in omega (arith, x .0, h, G .tables)

@@ -6,7 +6,7 @@ use mathlib.Core.Option.{some}
 use Prim.Native.Nat.{ℕ, _<_}
 use native.Mathlib.Omega.{arith}
 use lib.IntN.{ℤ}
-use lib.ListN.{length, getD, replicate, getD-replicate}
+use lib.ListN.{length, getD}
 use Rattle.value.specs.Bag.{All}
 use Rattle.value.proofs.Values.{all-map}
 use Rattle.meaning.specs.Syntax.{View, Goal, File, Database}
@@ -18,14 +18,14 @@ use Rattle.catalog.specs.FileIn.{FileIn, TablesCounted}
 use Rattle.catalog.specs.declared.outline.Outline.{Outline}
 use Rattle.catalog.proofs.FileLaws.{rows-are}
 use Rattle.cases.specs.TablesIn.{TablesIn}
-use Rattle.cases.specs.Needs.{Flag, Asks, Wants, GoalIn, Covers}
+use Rattle.cases.specs.Needs.{Flag, flagOf, Needed, Asked, Asks, AllSet, GoalIn, Covers}
 use Rattle.cases.specs.Judgement.{TablesKept}
 use Rattle.cases.proofs.SignLaws.{names-before}
 use Rattle.cases.proofs.FileLaws.{view-legal, before-length}
 
 -- ---- numbers of rows
 
-pub counts-are : {F : File} {bytes starts shape : List ℕ} {ends : List ℤ} {o : Outline} {counts counts′ : List ℕ} → FileIn F bytes starts shape ends o
+pub counts-are : {F : File} {bytes shape : List ℕ} {ends : List ℤ} {o : Outline} {counts counts′ : List ℕ} → FileIn F bytes shape ends o
     → TablesCounted shape (o .tables) counts counts′ → length counts ≡ 16 → (t : ℕ) → t < length (F .tables) → getD counts′ t 0 ≡ tableAt (F .tables) t .rows
 counts-are {F} G c s t h = c .counted t (omega (arith, G .tables)) (omega (arith, G .legal .relationCount)) ∙ rows-are G t h
 
@@ -39,23 +39,21 @@ tables-kept {F} {tables = tables} {counts} {counts′} {work} {work′} n k T = 
 
 -- ---- every relation
 
-one : (i : ℕ) → i < 16 → Flag (replicate 16 1) i
-one i h = record { on = getD-replicate 16 i 1 0 h }
-
 -- flags of all relations cover what a goal depends on
-pub all-covers : {F : File} → Legal F → (g : Goal) → GoalIn F g → Covers F g (replicate 16 1) (replicate 16 1)
-all-covers {F} L g W = record { view = W; goal = goal (g .negative); rows = λ v q e f. named v q e; signs = λ v q e f. asks q (named v q e) }
+pub all-covers : {F : File} {shape shape′ : List ℕ} → Legal F → length shape ≡ 128 → AllSet 16 shape shape′ → (g : Goal) → GoalIn F g → Covers F g shape′
+all-covers {F} {shape} {shape′} L z S g W = record {
+  view = W;
+  goal = S .flag z (g .negative) (g .view) (omega (arith, W .before, L .relationCount));
+  rows = λ v q e f. named false v q e;
+  signs = λ v q e f. asks q (named false v q e) (named true v q e);
+}
   where
-    goal : (b : Bool) → Wants (replicate 16 1) (replicate 16 1) b (g .view)
-    goal true = one (g .view) (omega (arith, W .before, L .relationCount))
-    goal false = one (g .view) (omega (arith, W .before, L .relationCount))
-
-    named : (v : ℕ) (q : View) → query (length (F .tables)) F v ≡ some q → All (Flag (replicate 16 1)) (names q)
-    named v q e =
+    named : (asked : Bool) (v : ℕ) (q : View) → query (length (F .tables)) F v ≡ some q → All (Flag (flagOf asked) shape′) (names q)
+    named asked v q e =
         let last = query-split (length (F .tables)) F v q e .2 in
-        all-map (λ i h. one i (omega (arith, before-length L v q e, L .relationCount))) (names-before q (view-legal L v q e))
+        all-map (λ i h. S .flag z asked i (omega (arith, before-length L v q e, L .relationCount))) (names-before q (view-legal L v q e))
 
-    asks : (q : View) → All (Flag (replicate 16 1)) (names q) → Asks (replicate 16 1) (replicate 16 1) q
-    asks (View.basic fs w es) h = h
-    asks (View.grouped fs w gs c es) h = h
-    asks (View.set op i j) (All.cons a (All.cons b All.nil)) = (a, b)
+    asks : (q : View) → All (Needed shape′) (names q) → All (Asked shape′) (names q) → Asks shape′ q
+    asks (View.basic fs w es) h k = h
+    asks (View.grouped fs w gs c es) h k = h
+    asks (View.set op i j) h (All.cons a (All.cons b All.nil)) = (a, b)

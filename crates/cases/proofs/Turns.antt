@@ -35,7 +35,7 @@ use Rattle.catalog.specs.declared.outline.Outline.{Outline}
 use Rattle.catalog.proofs.FileLaws.{width-is}
 use Rattle.store.specs.Layout.{area}
 use Rattle.store.specs.Rows.{rowsIn}
-use Rattle.cases.specs.Needs.{Flag, Asks, Covers}
+use Rattle.cases.specs.Needs.{Needed, Asked, Asks, Covers}
 use Rattle.cases.specs.Relations.{columnsOf, OperandsIn, SignsIn}
 use Rattle.cases.specs.Judgement.{SignNoted, RowsNoted, Known}
 use Rattle.cases.proofs.SignLaws.{names-before, operands-kept}
@@ -48,7 +48,7 @@ view-there F v h l =
     let (q, e) = getElem-some (F .views) (v - n) (omega arith) in
     (q, rw (le-ltb v n h) e)
 
-module _ {F : File} {g : Goal} {d : Database} {needed asked : List ℕ} (L : Legal F) (C : Covers F g needed asked) (shaped : Shaped F d) where
+module _ {F : File} {g : Goal} {d : Database} {shape : List ℕ} (L : Legal F) (C : Covers F g shape) (shaped : Shaped F d) where
   abbrev n : ℕ
   n = length (F .tables)
 
@@ -70,7 +70,7 @@ module _ {F : File} {g : Goal} {d : Database} {needed asked : List ℕ} (L : Leg
 
   -- the relations that a view names, where their rows are needed
   operands-in : {counts refuted : List ℕ} {work : List ℤ} (v : ℕ) (q : View) (e : query n F v ≡ some q) → v < n + length (F .views) → area ≤ length work
-      → Known F d needed asked counts refuted work v → All (Flag needed) (names q) → OperandsIn n (take v (schemas F)) (M v) counts work v q
+      → Known F d shape counts refuted work v → All (Needed shape) (names q) → OperandsIn n (take v (schemas F)) (M v) counts work v q
   operands-in {counts} {refuted} {work} v q e l whole K flags =
       let legal = view-legal L v q e in
       let place = before-length L v q e in
@@ -89,7 +89,7 @@ module _ {F : File} {g : Goal} {d : Database} {needed asked : List ℕ} (L : Leg
 
   -- what tells whether a view is negative, where it is asked
   signs-in : {counts refuted : List ℕ} {work : List ℤ} (v : ℕ) (q : View) (e : query n F v ≡ some q) → v < n + length (F .views) → area ≤ length work
-      → Known F d needed asked counts refuted work v → Asks needed asked q → SignsIn n (take v (schemas F)) (M v) neg counts refuted work v q
+      → Known F d shape counts refuted work v → Asks shape q → SignsIn n (take v (schemas F)) (M v) neg counts refuted work v q
   signs-in v (View.basic fs w es) e l whole K flags = operands-in v (View.basic fs w es) e l whole K flags
   signs-in v (View.grouped fs w gs h es) e l whole K flags = operands-in v (View.grouped fs w gs h es) e l whole K flags
   signs-in v (View.set op i j) e l whole K (fi, fj) =
@@ -101,25 +101,25 @@ module _ {F : File} {g : Goal} {d : Database} {needed asked : List ℕ} (L : Leg
 
   -- ---- one turn
 
-  module _ {bytes starts shape : List ℕ} {ends : List ℤ} {o : Outline} (G : FileIn F bytes starts shape ends o) {counts refuted : List ℕ} {work : List ℤ}
+  module _ {bytes : List ℕ} {ends : List ℤ} {o : Outline} (G : FileIn F bytes shape ends o) {counts refuted : List ℕ} {work : List ℤ}
       (whole : area ≤ length work) (counts-size : length counts ≡ 16) (refuted-size : length refuted ≡ 16) (v : ℕ) (first : n ≤ v)
-      (last : v < n + length (F .views)) {frame : List ℕ} (here : frame ≡ frameIn bytes starts v) (K : Known F d needed asked counts refuted work v)
-      {counts′ refuted′ : List ℕ} {work₁ work₂ : List ℤ} (S : SignNoted frame asked counts refuted work v refuted′ work₁)
-      (R : RowsNoted frame shape needed counts work₁ v counts′ work₂) where
+      (last : v < n + length (F .views)) {frame : List ℕ} (here : frame ≡ frameIn bytes shape v) (K : Known F d shape counts refuted work v)
+      {counts′ refuted′ : List ℕ} {work₁ work₂ : List ℤ} (S : SignNoted frame shape counts refuted work v refuted′ work₁)
+      (R : RowsNoted frame shape counts work₁ v counts′ work₂) where
     small : v < 16
     small = omega (arith, L .relationCount)
 
     own-frame : (q : View) → query n F v ≡ some q → frame ≡ viewBytes q
     own-frame q e = here ∙ G .views v q e
 
-    own-sign : Flag asked v → getD refuted′ v 0 ≡ cond (neg v) 1 0
+    own-sign : Asked shape v → getD refuted′ v 0 ≡ cond (neg v) 1 0
     own-sign f =
         let (q, e) = view-there F v first last in
         let (r, T, noted) = S .noted f (omega (arith, small)) in
         let s = signs-in v q e last whole K (C .signs v q e f) in
         noted ∙ ap (λ b. cond b 1 0) (T .refutes q (own-frame q e) n (take v (schemas F)) (M v) neg s ∙ sym (negative-view F d in-order v q (in-d v e)))
 
-    own-rows : Flag needed v → rowsIn work₂ v (columnsOf (schemas F) v) (getD counts′ v 0) ≡ rows F d v
+    own-rows : Needed shape v → rowsIn work₂ v (columnsOf (schemas F) v) (getD counts′ v 0) ≡ rows F d v
     own-rows f =
         let (q, e) = view-there F v first last in
         let s = operands-kept q (S .apart) (operands-in v q e last whole K (C .rows v q e f)) in
@@ -131,13 +131,13 @@ module _ {F : File} {g : Goal} {d : Database} {needed asked : List ℕ} (L : Leg
     rows-kept : (i w k : ℕ) → (i ≡ v → ⊥) → rowsIn work₂ i w k ≡ rowsIn work i w k
     rows-kept i w k h = R .apart .others i w k h ∙ S .apart .others i w k h
 
-    pub turn-known : Known F d needed asked counts′ refuted′ work₂ (suc v)
+    pub turn-known : Known F d shape counts′ refuted′ work₂ (suc v)
     turn-known = record {
-      rows-known = λ i h f. ⊎-elim (λ (e : i ≡ v). subst (λ j. rowsIn work₂ j (columnsOf (schemas F) j) (getD counts′ j 0) ≡ rows F d j) (sym e) (own-rows (subst (Flag needed) e f)))
+      rows-known = λ i h f. ⊎-elim (λ (e : i ≡ v). subst (λ j. rowsIn work₂ j (columnsOf (schemas F) j) (getD counts′ j 0) ≡ rows F d j) (sym e) (own-rows (subst (Needed shape) e f)))
           (λ (l : i < v). let other : i ≡ v → ⊥ = λ e. omega arith in
           rw (R .others i other) (rows-kept i (columnsOf (schemas F) i) (getD counts i 0) other ∙ K .rows-known i l f))
           (eq-or-lt-of-le (le-of-suc-le-suc h));
-      signs-known = λ i t h f. ⊎-elim (λ (e : i ≡ v). subst (λ j. getD refuted′ j 0 ≡ cond (neg j) 1 0) (sym e) (own-sign (subst (Flag asked) e f)))
+      signs-known = λ i t h f. ⊎-elim (λ (e : i ≡ v). subst (λ j. getD refuted′ j 0 ≡ cond (neg j) 1 0) (sym e) (own-sign (subst (Asked shape) e f)))
           (λ (l : i < v). S .others i (λ e. omega arith) ∙ K .signs-known i t l f)
           (eq-or-lt-of-le (le-of-suc-le-suc h));
     }

@@ -27,7 +27,7 @@ valid-is F d sh = rw (true-dec (shaped-dec F d) sh)
 
 module _ {bytes shape : List ℕ} {o : Outline} {counts : List ℕ} {work : List ℤ} where
   keys-told : {r : Bool} → KeysHeld shape counts work (o .tables) r
-      → {F : File} {d : Database} {starts : List ℕ} {ends : List ℤ} → FileIn F bytes starts shape ends o → Shaped F d → TablesIn F d counts work
+      → {F : File} {d : Database} {ends : List ℤ} → FileIn F bytes shape ends o → Shaped F d → TablesIn F d counts work
       → r ≡ each keyHolds (F .tables) d
   keys-told k {F} {d} G sh s =
       let n : length (F .tables) ≡ o .tables = sym (G .tables) in

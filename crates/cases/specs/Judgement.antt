@@ -18,35 +18,35 @@ use Rattle.store.specs.Layout.{area}
 use Rattle.store.specs.Rows.{rowsIn}
 use Rattle.views.specs.Copies.{Apart}
 use Rattle.cases.specs.TablesIn.{TablesIn}
-use Rattle.cases.specs.Needs.{Flag, Covers}
+use Rattle.cases.specs.Needs.{Needed, Asked, Covers}
 use Rattle.cases.specs.Relations.{columnsOf, ViewRows, IsRefuted}
 
 -- ---- one view
 
 -- where its sign is asked it is noted; what belongs to other relations stays
-pub record SignNoted (frame asked counts refuted : List ℕ) (work : List ℤ) (v : ℕ) (refuted′ : List ℕ) (work′ : List ℤ) : Type 0 where
+pub record SignNoted (frame shape counts refuted : List ℕ) (work : List ℤ) (v : ℕ) (refuted′ : List ℕ) (work′ : List ℤ) : Type 0 where
   pub apart : Apart v work work′
   pub size : length refuted′ ≡ length refuted
   pub others : (i : ℕ) → (i ≡ v → ⊥) → getD refuted′ i 0 ≡ getD refuted i 0
-  pub noted : Flag asked v → v < length refuted → (r : Bool) × IsRefuted frame counts refuted work v r work′ × (getD refuted′ v 0 ≡ cond r 1 0)
+  pub noted : Asked shape v → v < length refuted → (r : Bool) × IsRefuted frame counts refuted work v r work′ × (getD refuted′ v 0 ≡ cond r 1 0)
 
 -- where its rows are needed they are worked out; what belongs to other relations stays
-pub record RowsNoted (frame shape needed counts : List ℕ) (work : List ℤ) (v : ℕ) (counts′ : List ℕ) (work′ : List ℤ) : Type 0 where
+pub record RowsNoted (frame shape counts : List ℕ) (work : List ℤ) (v : ℕ) (counts′ : List ℕ) (work′ : List ℤ) : Type 0 where
   pub apart : Apart v work work′
   pub size : length counts′ ≡ length counts
   pub others : (i : ℕ) → (i ≡ v → ⊥) → getD counts′ i 0 ≡ getD counts i 0
-  pub noted : Flag needed v → v < length counts → ViewRows frame shape counts work v (getD counts′ v 0) work′
+  pub noted : Needed shape v → v < length counts → ViewRows frame shape counts work v (getD counts′ v 0) work′
 
 -- ---- all views
 
 -- below relation v, needed relations have their rows in the work area, and the signs of views that are asked are told
-pub record Known (F : File) (d : Database) (needed asked counts refuted : List ℕ) (work : List ℤ) (v : ℕ) : Type 0 where
-  pub rows-known : (i : ℕ) → i < v → Flag needed i → rowsIn work i (columnsOf (schemas F) i) (getD counts i 0) ≡ rows F d i
-  pub signs-known : (i : ℕ) → length (F .tables) ≤ i → i < v → Flag asked i → getD refuted i 0 ≡ cond (negative F d (suc i) i) 1 0
+pub record Known (F : File) (d : Database) (shape counts refuted : List ℕ) (work : List ℤ) (v : ℕ) : Type 0 where
+  pub rows-known : (i : ℕ) → i < v → Needed shape i → rowsIn work i (columnsOf (schemas F) i) (getD counts i 0) ≡ rows F d i
+  pub signs-known : (i : ℕ) → length (F .tables) ≤ i → i < v → Asked shape i → getD refuted i 0 ≡ cond (negative F d (suc i) i) 1 0
 
 -- what a database's evaluation rests on
-pub record Ready (F : File) (g : Goal) (d : Database) (needed asked counts refuted : List ℕ) (work : List ℤ) : Type 0 where
-  pub covers : Covers F g needed asked
+pub record Ready (F : File) (g : Goal) (d : Database) (shape counts refuted : List ℕ) (work : List ℤ) : Type 0 where
+  pub covers : Covers F g shape
   pub shaped : Shaped F d
   pub tables : TablesIn F d counts work
   pub whole : area ≤ length work
@@ -60,11 +60,11 @@ pub record TablesKept (tables : ℕ) (counts : List ℕ) (work : List ℤ) (coun
   pub counts-size : length counts′ ≡ length counts
   pub count : (t : ℕ) → t < tables → getD counts′ t 0 ≡ getD counts t 0
 
-pub record Evaluates (bytes starts shape needed asked : List ℕ) (o : Outline) (counts refuted : List ℕ) (work : List ℤ) (counts′ refuted′ : List ℕ) (work′ : List ℤ) : Type 0 where
+pub record Evaluates (bytes shape : List ℕ) (o : Outline) (counts refuted : List ℕ) (work : List ℤ) (counts′ refuted′ : List ℕ) (work′ : List ℤ) : Type 0 where
   pub kept : TablesKept (o .tables) counts work counts′ work′
   pub refuted-size : length refuted′ ≡ length refuted
-  pub known : {F : File} {g : Goal} {d : Database} {ends : List ℤ} → FileIn F bytes starts shape ends o → Ready F g d needed asked counts refuted work
-      → Known F d needed asked counts′ refuted′ work′ (length (F .tables) + length (F .views))
+  pub known : {F : File} {g : Goal} {d : Database} {ends : List ℤ} → FileIn F bytes shape ends o → Ready F g d shape counts refuted work
+      → Known F d shape counts′ refuted′ work′ (length (F .tables) + length (F .views))
 
 -- ---- the case
 
@@ -73,8 +73,8 @@ pub record IsWanted (g : GoalHere) (counts refuted : List ℕ) (r : Bool) : Type
   pub by-sign : (b : Bool) → g .negative ≡ true → getD refuted (g .view) 0 ≡ cond b 1 0 → r ≡ b
 
 -- of every legal file and every database of its row counts and value ranges
-pub record IsCase (bytes starts shape needed asked : List ℕ) (o : Outline) (g : GoalHere) (counts refuted : List ℕ) (work : List ℤ) (r : Bool) (counts′ refuted′ : List ℕ) (work′ : List ℤ) : Type 0 where
+pub record IsCase (bytes shape : List ℕ) (o : Outline) (g : GoalHere) (counts refuted : List ℕ) (work : List ℤ) (r : Bool) (counts′ refuted′ : List ℕ) (work′ : List ℤ) : Type 0 where
   pub kept : TablesKept (o .tables) counts work counts′ work′
   pub refuted-size : length refuted′ ≡ length refuted
-  pub case : {F : File} {d : Database} {ends : List ℤ} → FileIn F bytes starts shape ends o → Ready F (goalOf g) d needed asked counts refuted work
+  pub case : {F : File} {d : Database} {ends : List ℤ} → FileIn F bytes shape ends o → Ready F (goalOf g) d shape counts refuted work
       → r ≡ isCase F (goalOf g) d

@@ -60,5 +60,5 @@ pub record ForeignsHeld (bytes : List ℕ) (at keys : ℕ) (counts : List ℕ) (
 -- ---- the whole
 
 pub record IsValid (bytes shape : List ℕ) (o : Outline) (counts : List ℕ) (work : List ℤ) (r : Bool) : Type 0 where
-  pub is-valid : {F : File} {d : Database} {starts : List ℕ} {ends : List ℤ} → FileIn F bytes starts shape ends o → Shaped F d → TablesIn F d counts work
+  pub is-valid : {F : File} {d : Database} {ends : List ℤ} → FileIn F bytes shape ends o → Shaped F d → TablesIn F d counts work
       → r ≡ valid F d

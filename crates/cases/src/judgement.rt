@@ -1,6 +1,7 @@
 // Whether the database whose tables stand in the work area is a case.
 use super::relation;
 use super::validity;
+use catalog::arrays;
 use catalog::frames;
 use catalog::outline::Outline;
 use catalog::plan::Goal;
@@ -8,10 +9,10 @@ use value::boolean;
 ghost use Rattle.cases.specs.Judgement.{SignNoted, RowsNoted, Evaluates, IsWanted, IsCase};
 
 // Whether view v is negative, if it is asked.
-fn note_sign(frame: &[u8], asked: &[u8], counts: &[u8], refuted: &mut [u8], work: &mut [i32], v: u8)
-    ensures { λ _. ⌜ SignNoted (now (frame .entry)) (now (asked .entry)) (now (counts .entry)) (now (refuted .entry)) (now (work .entry)) v (now (refuted .exit)) (now (work .exit)) ⌝ }
+fn note_sign(frame: &[u8], shape: &[u8], counts: &[u8], refuted: &mut [u8], work: &mut [i32], v: u8)
+    ensures { λ _. ⌜ SignNoted (now (frame .entry)) (now (shape .entry)) (now (counts .entry)) (now (refuted .entry)) (now (work .entry)) v (now (refuted .exit)) (now (work .exit)) ⌝ }
 {
-    if slice::byte_at(asked, v as usize) != 1 {
+    if !arrays::is_asked(shape, v) {
         return;
     }
     let sign = relation::is_refuted(frame, counts, refuted, work, v);
@@ -19,10 +20,10 @@ fn note_sign(frame: &[u8], asked: &[u8], counts: &[u8], refuted: &mut [u8], work
 }
 
 // The rows of view v, if they are needed, and their number.
-fn note_rows(frame: &[u8], shape: &[u8], needed: &[u8], counts: &mut [u8], work: &mut [i32], v: u8)
-    ensures { λ _. ⌜ RowsNoted (now (frame .entry)) (now (shape .entry)) (now (needed .entry)) (now (counts .entry)) (now (work .entry)) v (now (counts .exit)) (now (work .exit)) ⌝ }
+fn note_rows(frame: &[u8], shape: &[u8], counts: &mut [u8], work: &mut [i32], v: u8)
+    ensures { λ _. ⌜ RowsNoted (now (frame .entry)) (now (shape .entry)) (now (counts .entry)) (now (work .entry)) v (now (counts .exit)) (now (work .exit)) ⌝ }
 {
-    if slice::byte_at(needed, v as usize) != 1 {
+    if !arrays::is_needed(shape, v) {
         return;
     }
     let n = relation::view_rows(frame, shape, counts, work, v);
@@ -31,25 +32,22 @@ fn note_rows(frame: &[u8], shape: &[u8], needed: &[u8], counts: &mut [u8], work:
 
 // The views whose rows are needed or whose sign is asked, from the first to the last. `counts` has the number of rows of each relation,
 // at first of the tables; `refuted` has 1 for a negative view, else 0.
-// Refused: the first frame for each; rows where signs are asked.
+// Refused: the first frame for each; no view.
 pub fn evaluate(
     bytes: &[u8],
-    starts: &[u32],
     shape: &[u8],
-    needed: &[u8],
-    asked: &[u8],
     o: Outline,
     counts: &mut [u8],
     refuted: &mut [u8],
     work: &mut [i32],
 )
-    ensures { λ _. ⌜ Evaluates (now (bytes .entry)) (now (starts .entry)) (now (shape .entry)) (now (needed .entry)) (now (asked .entry)) o (now (counts .entry)) (now (refuted .entry)) (now (work .entry)) (now (counts .exit)) (now (refuted .exit)) (now (work .exit)) ⌝ }
+    ensures { λ _. ⌜ Evaluates (now (bytes .entry)) (now (shape .entry)) o (now (counts .entry)) (now (refuted .entry)) (now (work .entry)) (now (counts .exit)) (now (refuted .exit)) (now (work .exit)) ⌝ }
 {
     let mut v = o.tables;
     while v < o.relations {
-        let frame = frames::frame_of(bytes, starts, v);
-        note_sign(frame, asked, counts, refuted, work, v);
-        note_rows(frame, shape, needed, counts, work, v);
+        let frame = frames::frame_of(bytes, shape, v);
+        note_sign(frame, shape, counts, refuted, work, v);
+        note_rows(frame, shape, counts, work, v);
         v += 1;
     }
 }
@@ -69,17 +67,14 @@ pub fn wanted(goal: Goal, counts: &[u8], refuted: &[u8]) -> bool
 // Refused: an empty database; a database that is not valid.
 pub fn is_case(
     bytes: &[u8],
-    starts: &[u32],
     shape: &[u8],
-    needed: &[u8],
-    asked: &[u8],
     o: Outline,
     goal: Goal,
     counts: &mut [u8],
     refuted: &mut [u8],
     work: &mut [i32],
 ) -> bool
-    ensures { λ r. ⌜ IsCase (now (bytes .entry)) (now (starts .entry)) (now (shape .entry)) (now (needed .entry)) (now (asked .entry)) o goal (now (counts .entry)) (now (refuted .entry)) (now (work .entry)) r (now (counts .exit)) (now (refuted .exit)) (now (work .exit)) ⌝ }
+    ensures { λ r. ⌜ IsCase (now (bytes .entry)) (now (shape .entry)) o goal (now (counts .entry)) (now (refuted .entry)) (now (work .entry)) r (now (counts .exit)) (now (refuted .exit)) (now (work .exit)) ⌝ }
 {
     if !o.filled {
         return false;
@@ -87,16 +82,6 @@ pub fn is_case(
     if !validity::is_valid(bytes, shape, o, counts, work) {
         return false;
     }
-    evaluate(
-        bytes,
-        starts,
-        shape,
-        needed,
-        asked,
-        o,
-        counts,
-        refuted,
-        work,
-    );
+    evaluate(bytes, shape, o, counts, refuted, work);
     wanted(goal, counts, refuted)
 }

@@ -2,7 +2,7 @@
 use mathlib.Core.Path.{_≡_, refl, sym, ap, ap₂, _∙_}
 use mathlib.Core.Logic.{_⊎_, ⊎-elim}
 use mathlib.Core.List.{List, [], _∷_, _++_}
-use Prim.Native.Nat.{ℕ, zero, suc, _+_, _*_, _≤_, _<_}
+use Prim.Native.Nat.{ℕ, zero, suc, _+_, _*_, _/_, _%_, _≤_, _<_}
 use native.Mathlib.Numerals.{add-one}
 use native.Mathlib.Omega.{arith}
 use lib.IntN.{ℤ, pos}
@@ -11,7 +11,7 @@ use lib.Seq.{getD-set-same, getD-set-other, getD-append-seam, ext-getD}
 use Rattle.range.specs.declared.Range.{Range}
 use Rattle.range.specs.Ranges.{constantOf, columnOf, hullOf}
 use Rattle.meaning.proofs.Stacks.{by-lt, length-snoc}
-use Rattle.catalog.specs.Arrays.{kindAt, widthAt, boundAt, maskAt, rangesFrom, putRange, putShape, putRanges, rangeAt, Outside}
+use Rattle.catalog.specs.Arrays.{kindAt, widthAt, boundAt, maskAt, startAt, rangesFrom, putRange, putShape, putStart, FirstKept, putRanges, rangeAt, Outside}
 
 abbrev pub none : Range
 none = constantOf (pos 0)
@@ -174,54 +174,103 @@ module _ (shape : List ℕ) (ends : List ℤ) (r c : ℕ) where
   pub range-there : c < widthAt shape r → columnOf (getD ends (16 * r + 2 * c) (pos 0)) (getD ends (16 * r + 2 * c + 1) (pos 0)) ≡ rangeAt shape ends r c
   range-there h = sym (ranges-at ends (16 * r) (widthAt shape r) c h)
 
--- ---- the four bytes of a relation
+-- ---- the first four bytes of a relation
 
 module _ (shape : List ℕ) (r kind width bound mask : ℕ) where
   pub shape-length : length (putShape shape r kind width bound mask) ≡ length shape
   unfolding putShape
   shape-length = simp length-set
 
-  pub shape-other : (k : ℕ) → (k < 4 * r) ⊎ (4 * r + 4 ≤ k) → getD (putShape shape r kind width bound mask) k 0 ≡ getD shape k 0
+  pub shape-other : (k : ℕ) → (k < 8 * r) ⊎ (8 * r + 4 ≤ k) → getD (putShape shape r kind width bound mask) k 0 ≡ getD shape k 0
   unfolding putShape
   shape-other k h =
-      let s₁ = set shape (4 * r) kind in
-      let s₂ = set s₁ (4 * r + 1) width in
-      let s₃ = set s₂ (4 * r + 2) bound in
-      getD-set-other s₃ (4 * r + 3) k mask 0 (λ e. ⊎-elim (λ l. omega arith) (λ l. omega arith) h)
-      ∙ getD-set-other s₂ (4 * r + 2) k bound 0 (λ e. ⊎-elim (λ l. omega arith) (λ l. omega arith) h)
-      ∙ getD-set-other s₁ (4 * r + 1) k width 0 (λ e. ⊎-elim (λ l. omega arith) (λ l. omega arith) h)
-      ∙ getD-set-other shape (4 * r) k kind 0 (λ e. ⊎-elim (λ l. omega arith) (λ l. omega arith) h)
+      let s₁ = set shape (8 * r) kind in
+      let s₂ = set s₁ (8 * r + 1) width in
+      let s₃ = set s₂ (8 * r + 2) bound in
+      getD-set-other s₃ (8 * r + 3) k mask 0 (λ e. ⊎-elim (λ l. omega arith) (λ l. omega arith) h)
+      ∙ getD-set-other s₂ (8 * r + 2) k bound 0 (λ e. ⊎-elim (λ l. omega arith) (λ l. omega arith) h)
+      ∙ getD-set-other s₁ (8 * r + 1) k width 0 (λ e. ⊎-elim (λ l. omega arith) (λ l. omega arith) h)
+      ∙ getD-set-other shape (8 * r) k kind 0 (λ e. ⊎-elim (λ l. omega arith) (λ l. omega arith) h)
 
-  module _ (room : 4 * r + 3 < length shape) where
+  module _ (room : 8 * r + 3 < length shape) where
     pub put-kind : kindAt (putShape shape r kind width bound mask) r ≡ kind
     unfolding putShape
     put-kind =
-        let s₁ = set shape (4 * r) kind in
-        let s₂ = set s₁ (4 * r + 1) width in
-        let s₃ = set s₂ (4 * r + 2) bound in
-        getD-set-other s₃ (4 * r + 3) (4 * r) mask 0 (λ e. omega arith)
-        ∙ getD-set-other s₂ (4 * r + 2) (4 * r) bound 0 (λ e. omega arith)
-        ∙ getD-set-other s₁ (4 * r + 1) (4 * r) width 0 (λ e. omega arith)
-        ∙ getD-set-same shape (4 * r) kind 0 (omega arith)
+        let s₁ = set shape (8 * r) kind in
+        let s₂ = set s₁ (8 * r + 1) width in
+        let s₃ = set s₂ (8 * r + 2) bound in
+        getD-set-other s₃ (8 * r + 3) (8 * r) mask 0 (λ e. omega arith)
+        ∙ getD-set-other s₂ (8 * r + 2) (8 * r) bound 0 (λ e. omega arith)
+        ∙ getD-set-other s₁ (8 * r + 1) (8 * r) width 0 (λ e. omega arith)
+        ∙ getD-set-same shape (8 * r) kind 0 (omega arith)
 
     pub put-width : widthAt (putShape shape r kind width bound mask) r ≡ width
     unfolding putShape
     put-width =
-        let s₁ = set shape (4 * r) kind in
-        let s₂ = set s₁ (4 * r + 1) width in
-        let s₃ = set s₂ (4 * r + 2) bound in
-        getD-set-other s₃ (4 * r + 3) (4 * r + 1) mask 0 (λ e. omega arith)
-        ∙ getD-set-other s₂ (4 * r + 2) (4 * r + 1) bound 0 (λ e. omega arith)
-        ∙ getD-set-same s₁ (4 * r + 1) width 0 (rw length-set (omega arith))
+        let s₁ = set shape (8 * r) kind in
+        let s₂ = set s₁ (8 * r + 1) width in
+        let s₃ = set s₂ (8 * r + 2) bound in
+        getD-set-other s₃ (8 * r + 3) (8 * r + 1) mask 0 (λ e. omega arith)
+        ∙ getD-set-other s₂ (8 * r + 2) (8 * r + 1) bound 0 (λ e. omega arith)
+        ∙ getD-set-same s₁ (8 * r + 1) width 0 (rw length-set (omega arith))
 
     pub put-bound : boundAt (putShape shape r kind width bound mask) r ≡ bound
     unfolding putShape
     put-bound =
-        let s₂ = set (set shape (4 * r) kind) (4 * r + 1) width in
-        let s₃ = set s₂ (4 * r + 2) bound in
-        getD-set-other s₃ (4 * r + 3) (4 * r + 2) mask 0 (λ e. omega arith)
-        ∙ getD-set-same s₂ (4 * r + 2) bound 0 (simp length-set (omega arith))
+        let s₂ = set (set shape (8 * r) kind) (8 * r + 1) width in
+        let s₃ = set s₂ (8 * r + 2) bound in
+        getD-set-other s₃ (8 * r + 3) (8 * r + 2) mask 0 (λ e. omega arith)
+        ∙ getD-set-same s₂ (8 * r + 2) bound 0 (simp length-set (omega arith))
 
     pub put-mask : maskAt (putShape shape r kind width bound mask) r ≡ mask
     unfolding putShape
-    put-mask = getD-set-same (set (set (set shape (4 * r) kind) (4 * r + 1) width) (4 * r + 2) bound) (4 * r + 3) mask 0 (simp length-set (omega arith))
+    put-mask = getD-set-same (set (set (set shape (8 * r) kind) (8 * r + 1) width) (8 * r + 2) bound) (8 * r + 3) mask 0 (simp length-set (omega arith))
+
+-- ---- the bytes of all relations
+
+-- byte k of relation i is not byte m of relation r
+pub byte-apart : (i r k m : ℕ) → k < 8 → m < 8 → (k ≡ m → ⊥) → 8 * i + k ≡ 8 * r + m → ⊥
+byte-apart i r k m h l n e = by-lt i r (λ _ q. omega arith) (λ _ q. by-lt r i (λ _ p. omega arith) (λ _ p. n (omega arith)))
+
+-- nor any of another relation
+pub entry-apart : (i r k m : ℕ) → k < 8 → m < 8 → (i ≡ r → ⊥) → 8 * i + k ≡ 8 * r + m → ⊥
+entry-apart i r k m h l n e = by-lt i r (λ _ q. omega arith) (λ _ q. by-lt r i (λ _ p. omega arith) (λ _ p. n (omega arith)))
+
+pub first-same : (n : ℕ) (shape : List ℕ) → FirstKept n shape shape
+first-same n shape = record { size = refl; byte = λ r k h. refl }
+
+pub first-more : {n : ℕ} {a b c : List ℕ} → FirstKept n a b → FirstKept n b c → FirstKept n a c
+first-more p q = record { size = q .size ∙ p .size; byte = λ r k h. q .byte r k h ∙ p .byte r k h }
+
+-- a byte behind them stored
+pub first-set : (n : ℕ) (shape : List ℕ) (r m x : ℕ) → n ≤ m → m < 8 → FirstKept n shape (set shape (8 * r + m) x)
+first-set n shape r m x h l = record {
+  size = length-set shape (8 * r + m) x;
+  byte = λ i k j. getD-set-other shape (8 * r + m) (8 * i + k) x 0 (byte-apart i r k m (omega arith) l (λ e. omega arith));
+}
+
+-- ---- the place of a frame
+
+module _ (shape : List ℕ) (r at : ℕ) where
+  pub start-kept : FirstKept 4 shape (putStart shape r at)
+  unfolding putStart
+  start-kept = first-more (first-set 4 shape r 4 (at / 256 % 256) (omega arith) (omega arith))
+      (first-set 4 (set shape (8 * r + 4) (at / 256 % 256)) r 5 (at % 256) (omega arith) (omega arith))
+
+  pub start-there : 8 * r + 5 < length shape → at < 65536 → startAt (putStart shape r at) r ≡ at
+  unfolding putStart startAt
+  start-there h l =
+      let s₁ = set shape (8 * r + 4) (at / 256 % 256) in
+      let high : getD (set s₁ (8 * r + 5) (at % 256)) (8 * r + 4) 0 ≡ at / 256 % 256 =
+      getD-set-other s₁ (8 * r + 5) (8 * r + 4) (at % 256) 0 (λ e. omega arith) ∙ getD-set-same shape (8 * r + 4) (at / 256 % 256) 0 (omega arith) in
+      let low : getD (set s₁ (8 * r + 5) (at % 256)) (8 * r + 5) 0 ≡ at % 256 =
+      getD-set-same s₁ (8 * r + 5) (at % 256) 0 (rw length-set h) in
+      rw (high, low) (omega arith)
+
+  pub start-other : (i : ℕ) → (i ≡ r → ⊥) → startAt (putStart shape r at) i ≡ startAt shape i
+  unfolding putStart startAt
+  start-other i n =
+      let s₁ = set shape (8 * r + 4) (at / 256 % 256) in
+      let same : (k : ℕ) → k < 8 → getD (set s₁ (8 * r + 5) (at % 256)) (8 * i + k) 0 ≡ getD shape (8 * i + k) 0 =
+      λ k h. getD-set-other s₁ (8 * r + 5) (8 * i + k) (at % 256) 0 (entry-apart i r k 5 h (omega arith) n) ∙ getD-set-other shape (8 * r + 4) (8 * i + k) (at / 256 % 256) 0 (entry-apart i r k 4 h (omega arith) n) in
+      rw (same 4 (omega arith), same 5 (omega arith))

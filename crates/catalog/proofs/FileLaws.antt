@@ -1,7 +1,7 @@
 -- What a file in memory tells of its relations. Assumes nothing.
 use mathlib.Core.Path.{_≡_, sym, ap, ap₂, _∙_}
 use mathlib.Core.List.{List, [], map}
-use Prim.Native.Nat.{ℕ, _*_, _<_}
+use Prim.Native.Nat.{ℕ, _*_, _≤_, _<_}
 use native.Mathlib.Omega.{arith}
 use lib.IntN.{ℤ}
 use lib.ListN.{length, getD, length-map}
@@ -19,7 +19,7 @@ use Rattle.meaning.proofs.ListSteps.{map-at}
 use Rattle.meaning.proofs.Stacks.{stack-keeps}
 use Rattle.language.specs.Legal.{LegalColumn, LegalTable, tableAt}
 pub use Rattle.catalog.specs.Arrays.{noColumn}
-use Rattle.catalog.specs.Arrays.{widthAt, boundAt, schemaIn, rangeAt, columnAt}
+use Rattle.catalog.specs.Arrays.{widthAt, boundAt, startAt, rangesFrom, schemaIn, rangeAt, columnAt, FirstKept}
 use Rattle.catalog.specs.FileIn.{TablesKnown, FileIn}
 use Rattle.catalog.specs.declared.outline.Outline.{Outline}
 use Rattle.catalog.proofs.ArrayLaws.{none, length-ranges}
@@ -52,7 +52,15 @@ tables-in {ts} {shape} {ends} legal known = record {
       ∙ column-told x (all-at (all-at legal (record { rows = 0; columns = []; key = [] }) t h .columns) noColumn c k);
 }
 
-module _ {F : File} {bytes starts shape : List ℕ} {ends : List ℤ} {o : Outline} (M : FileIn F bytes starts shape ends o) where
+-- the first four bytes and the ranges tell a schema
+pub schema-kept : {n : ℕ} {shape shape′ : List ℕ} (ends : List ℤ) → FirstKept n shape shape′ → 4 ≤ n → (i : ℕ) → schemaIn shape′ ends i ≡ schemaIn shape ends i
+schema-kept ends k h i = ap₂ (λ b m. record { bound = b; ranges = rangesFrom ends (16 * i) m }) (k .byte i 2 (omega arith)) (k .byte i 1 (omega arith))
+
+pub column-kept : {n : ℕ} {shape shape′ : List ℕ} (ends : List ℤ) → FirstKept n shape shape′ → 4 ≤ n → (i c : ℕ) → columnAt shape′ ends i c ≡ columnAt shape ends i c
+unfolding columnAt
+column-kept ends k h i c = rw (k .byte i 1 (omega arith))
+
+module _ {F : File} {bytes shape : List ℕ} {ends : List ℤ} {o : Outline} (M : FileIn F bytes shape ends o) where
   pub width-is : (i : ℕ) → widthAt shape i ≡ length (schema (schemas F) i .ranges)
   width-is i = sym (length-ranges ends (16 * i) (widthAt shape i)) ∙ ap (λ (s : Schema). length (s .ranges)) (M .known i)
 
@@ -72,3 +80,19 @@ module _ {F : File} {bytes starts shape : List ℕ} {ends : List ℤ} {o : Outli
   pub column-is : (t c : ℕ) → t < length (F .tables) → c < length (tableAt (F .tables) t .columns)
       → columnAt shape ends t c ≡ getD (tableAt (F .tables) t .columns) c noColumn
   column-is = tables-are .column
+
+  -- the flags are no part of it
+  pub file-kept : {shape′ : List ℕ} → FirstKept 6 shape shape′ → FileIn F bytes shape′ ends o
+  unfolding startAt
+  file-kept {shape′} k = record {
+    legal = M .legal;
+    sized = k .size ∙ M .sized;
+    tables = M .tables;
+    keys = M .keys;
+    relations = M .relations;
+    views = λ v q e. rw (k .byte v 4 (omega arith), k .byte v 5 (omega arith)) (M .views v q e);
+    foreign = M .foreign;
+    known = λ i. schema-kept ends k (omega arith) i ∙ M .known i;
+    masks = λ i h. k .byte i 3 (omega arith) ∙ M .masks i h;
+    filled = M .filled;
+  }

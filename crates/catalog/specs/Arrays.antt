@@ -1,8 +1,9 @@
--- What is known of each relation, in two arrays: four bytes for each relation (kind, columns, row bound, key mask),
--- and sixteen numbers for each, lo and hi of up to 8 columns. Past the end everything is 0. Assumes nothing: these are definitions.
+-- What is known of each relation, in two arrays: eight bytes for each relation (kind, columns, row bound, key mask, the place of its frame
+-- in two bytes, and two flags), and sixteen numbers for each, lo and hi of up to 8 columns. Past the end everything is 0. Assumes nothing:
+-- these are definitions.
 use mathlib.Core.Path.{_≡_}
 use mathlib.Core.List.{List, [], _∷_, map}
-use Prim.Native.Nat.{ℕ, zero, suc, _+_, _*_, _≤_, _<_}
+use Prim.Native.Nat.{ℕ, zero, suc, _+_, _*_, _/_, _%_, _≤_, _<_}
 use lib.IntN.{ℤ, pos}
 use lib.ListN.{length, getD, set}
 use Rattle.value.specs.Integer.{narrow16}
@@ -11,18 +12,33 @@ use Rattle.range.specs.declared.Range.{Range}
 use Rattle.range.specs.Ranges.{constantOf}
 use Rattle.meaning.specs.Bounds.{Schema}
 
+-- where the eight bytes of a relation begin
+abbrev pub entry : ℕ → ℕ
+entry r = 8 * r
+
 -- 0 none, 1 table, 2 view
 abbrev pub kindAt : List ℕ → ℕ → ℕ
-kindAt shape r = getD shape (4 * r) 0
+kindAt shape r = getD shape (entry r) 0
 
 abbrev pub widthAt : List ℕ → ℕ → ℕ
-widthAt shape r = getD shape (4 * r + 1) 0
+widthAt shape r = getD shape (entry r + 1) 0
 
 abbrev pub boundAt : List ℕ → ℕ → ℕ
-boundAt shape r = getD shape (4 * r + 2) 0
+boundAt shape r = getD shape (entry r + 2) 0
 
 abbrev pub maskAt : List ℕ → ℕ → ℕ
-maskAt shape r = getD shape (4 * r + 3) 0
+maskAt shape r = getD shape (entry r + 3) 0
+
+-- the place of its frame, the high byte first
+unfoldable pub startAt : List ℕ → ℕ → ℕ
+startAt shape r = 256 * getD shape (entry r + 4) 0 + getD shape (entry r + 5) 0
+
+-- the flags of a search, 1 where its rows are needed and 1 where it is asked whether it is negative
+abbrev pub neededAt : List ℕ → ℕ → ℕ
+neededAt shape r = getD shape (entry r + 6) 0
+
+abbrev pub askedAt : List ℕ → ℕ → ℕ
+askedAt shape r = getD shape (entry r + 7) 0
 
 -- n ranges, from a place on
 unfoldable pub rangesFrom : List ℤ → ℕ → ℕ → List Range
@@ -59,7 +75,22 @@ putRange ends r c x = set (set ends (16 * r + 2 * c) (x .lo)) (16 * r + 2 * c + 
 
 unfoldable pub putShape : List ℕ → ℕ → ℕ → ℕ → ℕ → ℕ → List ℕ
 putShape shape r kind width bound mask =
-    set (set (set (set shape (4 * r) kind) (4 * r + 1) width) (4 * r + 2) bound) (4 * r + 3) mask
+    set (set (set (set shape (entry r) kind) (entry r + 1) width) (entry r + 2) bound) (entry r + 3) mask
+
+-- of a place below 65,536
+unfoldable pub putStart : List ℕ → ℕ → ℕ → List ℕ
+putStart shape r at = set (set shape (entry r + 4) (at / 256 % 256)) (entry r + 5) (at % 256)
+
+abbrev pub setNeeded : List ℕ → ℕ → List ℕ
+setNeeded shape r = set shape (entry r + 6) 1
+
+abbrev pub setAsked : List ℕ → ℕ → List ℕ
+setAsked shape r = set shape (entry r + 7) 1
+
+-- the first n bytes of each relation are as they were
+pub record FirstKept (n : ℕ) (shape shape′ : List ℕ) : Type 0 where
+  pub size : length shape′ ≡ length shape
+  pub byte : (r k : ℕ) → k < n → getD shape′ (entry r + k) 0 ≡ getD shape (entry r + k) 0
 
 -- the first n columns of relation r, in turn
 unfoldable pub putRanges : (ℕ → Range) → List ℤ → ℕ → ℕ → List ℤ

@@ -1,5 +1,5 @@
--- A file in memory: the packed bytes of its frames, the places where those of its relations begin, the two arrays and the outline. Everything
--- above the checker rests on this one relation. Assumes nothing: these are definitions.
+-- A file in memory: the packed bytes of its frames, the two arrays and the outline. Everything above the checker rests on this one relation.
+-- Assumes nothing: these are definitions.
 use mathlib.Core.Path.{_≡_}
 use mathlib.Core.Bool.{Bool}
 use mathlib.Core.List.{List, _++_, map}
@@ -27,13 +27,14 @@ pub record TablesKnown (ts : List Table) (shape : List ℕ) (ends : List ℤ) : 
   pub width : (t : ℕ) → t < length ts → widthAt shape t ≡ length (tableAt ts t .columns)
   pub column : (t c : ℕ) → t < length ts → c < length (tableAt ts t .columns) → columnAt shape ends t c ≡ getD (tableAt ts t .columns) c noColumn
 
-pub record FileIn (F : File) (bytes starts shape : List ℕ) (ends : List ℤ) (o : Outline) : Type 0 where
+pub record FileIn (F : File) (bytes shape : List ℕ) (ends : List ℤ) (o : Outline) : Type 0 where
   pub legal : Legal F
+  pub sized : length shape ≡ 128
   pub tables : o .tables ≡ length (F .tables)
   pub keys : o .keys ≡ length (F .keys)
   pub relations : o .relations ≡ length (F .tables) + length (F .views)
   -- the frame of each view, and those of the foreign keys, one behind the other
-  pub views : (v : ℕ) (q : View) → query (length (F .tables)) F v ≡ some q → frameIn bytes starts v ≡ viewBytes q
+  pub views : (v : ℕ) (q : View) → query (length (F .tables)) F v ≡ some q → frameIn bytes shape v ≡ viewBytes q
   pub foreign : (rest : List ℕ) × (drop (o .foreign) bytes ≡ pack (map keyBytes (F .keys)) ++ rest)
   -- the row bound and the ranges of each relation, and the key of each table
   pub known : (i : ℕ) → schemaIn shape ends i ≡ schema (schemas F) i
@@ -49,7 +50,7 @@ goalOf g = record { view = g .view; negative = g .negative }
 pub record PlanOf (F : File) (p : Plan) : Type 0 where
   pub number : p .number ≡ 0
   pub line : p .line ≡ 0
-  pub file : FileIn F (p .bytes) (p .starts) (p .shape) (p .ends) (p .outline)
+  pub file : FileIn F (p .bytes) (p .shape) (p .ends) (p .outline)
   pub goal : goalOf (p .goal) ≡ F .goal
   pub candidates-are : p .candidates ≡ candidates F
 

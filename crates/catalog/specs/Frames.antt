@@ -7,15 +7,16 @@ use lib.Dec.{eqb, ltb}
 use lib.ListN.{getD, take, drop}
 use Rattle.meaning.specs.Syntax.{View}
 use Rattle.language.specs.Written.{setKind}
+use Rattle.catalog.specs.Arrays.{startAt}
 use Rattle.catalog.specs.declared.frames.Parts.{Parts}
 
 -- the frame whose length stands at a place; where the bytes end early, what there is of it
 unfoldable pub frameAt : List ℕ → ℕ → List ℕ
 frameAt bytes at = take (getD bytes at 0) (drop (at + 1) bytes)
 
--- the frame of relation r; `starts` has the place of each
+-- the frame of relation r; `shape` has the place of each
 abbrev pub frameIn : List ℕ → List ℕ → ℕ → List ℕ
-frameIn bytes starts r = frameAt bytes (getD starts r 0)
+frameIn bytes shape r = frameAt bytes (startAt shape r)
 
 -- where the columns of a table's frame begin
 abbrev pub columnsStart : ℕ

@@ -1,4 +1,5 @@
-// What is known of each relation, in two arrays: its kind, columns, row bound and key mask, and the ranges of its columns.
+// What is known of each relation, in two arrays: its kind, columns, row bound, key mask, the place of its frame and two flags, and the
+// ranges of its columns.
 use range::Range;
 use slice::byte_at;
 use slice::put_byte;
@@ -6,17 +7,21 @@ use value::domain::Domain;
 use value::integer;
 ghost use mathlib.Core.Path.{_≡_};
 ghost use Prim.Native.Nat.{_+_, _*_};
+ghost use lib.Dec.{eqb};
 ghost use lib.IntN.{pos};
 ghost use lib.ListN.{getD, set};
 ghost use Rattle.value.specs.Machine.{columnOf};
-ghost use Rattle.catalog.specs.Arrays.{widthAt, boundAt, maskAt, rangeAt, columnAt, putRange, putShape};
+ghost use Rattle.catalog.specs.Arrays.{widthAt, boundAt, maskAt, startAt, neededAt, askedAt, rangeAt, columnAt, putRange, putShape, putStart, setNeeded, setAsked};
+
+// How many bytes a relation has in `shape`.
+const ENTRY: usize = 8;
 
 // The number of columns of a relation.
 // Refused: the kind; the row bound.
 pub fn width_of(shape: &[u8], r: u8) -> u8
     ensures { λ w. ⌜ w ≡ widthAt (now (shape .entry)) r ⌝ }
 {
-    byte_at(shape, 4 * (r as usize) + 1)
+    byte_at(shape, ENTRY * (r as usize) + 1)
 }
 
 // Its row bound.
@@ -24,7 +29,7 @@ pub fn width_of(shape: &[u8], r: u8) -> u8
 pub fn bound_of(shape: &[u8], r: u8) -> u8
     ensures { λ b. ⌜ b ≡ boundAt (now (shape .entry)) r ⌝ }
 {
-    byte_at(shape, 4 * (r as usize) + 2)
+    byte_at(shape, ENTRY * (r as usize) + 2)
 }
 
 // Its key mask.
@@ -32,7 +37,34 @@ pub fn bound_of(shape: &[u8], r: u8) -> u8
 pub fn mask_of(shape: &[u8], r: u8) -> u8
     ensures { λ m. ⌜ m ≡ maskAt (now (shape .entry)) r ⌝ }
 {
-    byte_at(shape, 4 * (r as usize) + 3)
+    byte_at(shape, ENTRY * (r as usize) + 3)
+}
+
+// The place of its frame, the frame's length first.
+// Refused: the low byte alone; that of the first relation.
+pub fn start_of(shape: &[u8], r: u8) -> usize
+    ensures { λ n. ⌜ n ≡ startAt (now (shape .entry)) r ⌝ }
+{
+    let at = ENTRY * (r as usize);
+    let high = byte_at(shape, at + 4) as usize;
+    let low = byte_at(shape, at + 5) as usize;
+    256 * high + low
+}
+
+// Whether a search needs its rows.
+// Refused: where they are not needed; whether its sign is asked.
+pub fn is_needed(shape: &[u8], r: u8) -> bool
+    ensures { λ b. ⌜ b ≡ eqb (neededAt (now (shape .entry)) r) 1 ⌝ }
+{
+    byte_at(shape, ENTRY * (r as usize) + 6) == 1
+}
+
+// Whether a search asks if it is negative.
+// Refused: where it is not asked; whether its rows are needed.
+pub fn is_asked(shape: &[u8], r: u8) -> bool
+    ensures { λ b. ⌜ b ≡ eqb (askedAt (now (shape .entry)) r) 1 ⌝ }
+{
+    byte_at(shape, ENTRY * (r as usize) + 7) == 1
 }
 
 // The number at a place; 0 past the end.
@@ -93,14 +125,38 @@ pub fn put_range(ends: &mut [i32], r: u8, c: u8, range: Range)
     put_end(ends, at + 1, range.hi);
 }
 
-// The four bytes of a relation.
+// The first four bytes of a relation.
 // Refused: the row bound as number of columns; the mask as row bound.
 pub fn put_shape(shape: &mut [u8], r: u8, kind: u8, width: u8, bound: u8, mask: u8)
     ensures { λ _. ⌜ now (shape .exit) ≡ putShape (now (shape .entry)) r kind width bound mask ⌝ }
 {
-    let at = 4 * (r as usize);
+    let at = ENTRY * (r as usize);
     put_byte(shape, at, kind);
     put_byte(shape, at + 1, width);
     put_byte(shape, at + 2, bound);
     put_byte(shape, at + 3, mask);
+}
+
+// The place of a relation's frame, below 65,536.
+// Refused: the low byte twice; the first relation's.
+pub fn put_start(shape: &mut [u8], r: u8, start: u32)
+    ensures { λ _. ⌜ now (shape .exit) ≡ putStart (now (shape .entry)) r start ⌝ }
+{
+    let at = ENTRY * (r as usize);
+    put_byte(shape, at + 4, (start / 256 % 256) as u8);
+    put_byte(shape, at + 5, (start % 256) as u8);
+}
+
+// Refused: the other flag; the first relation's.
+pub fn set_needed(shape: &mut [u8], r: u8)
+    ensures { λ _. ⌜ now (shape .exit) ≡ setNeeded (now (shape .entry)) r ⌝ }
+{
+    put_byte(shape, ENTRY * (r as usize) + 6, 1);
+}
+
+// Refused: the other flag; the first relation's.
+pub fn set_asked(shape: &mut [u8], r: u8)
+    ensures { λ _. ⌜ now (shape .exit) ≡ setAsked (now (shape .entry)) r ⌝ }
+{
+    put_byte(shape, ENTRY * (r as usize) + 7, 1);
 }

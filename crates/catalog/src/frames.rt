@@ -1,4 +1,5 @@
 // Frames in the packed bytes of a file, and the parts of a view's frame.
+use super::arrays;
 use slice::byte_at;
 ghost use mathlib.Core.Path.{_≡_};
 ghost use Prim.Native.Nat.{_+_, min};
@@ -45,23 +46,12 @@ pub fn frame_at(bytes: &[u8], at: usize) -> &[u8]
     part(bytes, before + 1, size)
 }
 
-// The place of a relation's frame, its length first.
-fn start_of(starts: &[u32], r: u8) -> usize
-    ensures { λ n. ⌜ n ≡ getD (now (starts .entry)) r 0 ⌝ }
-{
-    let i = r as usize;
-    if starts.len() <= i {
-        return 0;
-    }
-    starts[i] as usize
-}
-
 // The frame of a relation.
 // Refused: the first relation's; the second relation's.
-pub fn frame_of<'a>(bytes: &'a [u8], starts: &[u32], r: u8) -> &'a [u8]
-    ensures { λ f. ⌜ now f ≡ frameIn (now (bytes .entry)) (now (starts .entry)) r ⌝ }
+pub fn frame_of<'a>(bytes: &'a [u8], shape: &[u8], r: u8) -> &'a [u8]
+    ensures { λ f. ⌜ now f ≡ frameIn (now (bytes .entry)) (now (shape .entry)) r ⌝ }
 {
-    frame_at(bytes, start_of(starts, r))
+    frame_at(bytes, arrays::start_of(shape, r))
 }
 
 // The from list of a basic or an aggregate view's frame.

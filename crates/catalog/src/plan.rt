@@ -7,14 +7,13 @@ pub struct Goal {
     pub negative: bool,
 }
 
-// Number 0: the packed frames of a file, where those of its relations begin, what is known of each relation, the goal and the number of
-// candidates. Any other number: a refusal with its line.
+// Number 0: the packed frames of a file, what is known of each relation, the goal and the number of candidates. Any other number: a
+// refusal with its line.
 pub struct Plan {
     pub number: u8,
     pub line: u16,
     pub bytes: [u8; text::ROOM],
-    pub starts: [u32; 16],
-    pub shape: [u8; 64],
+    pub shape: [u8; 128],
     pub ends: [i32; 256],
     pub outline: Outline,
     pub goal: Goal,

@@ -41,20 +41,20 @@ pub record Stored (r kind width bound mask : ℕ) (shape : List ℕ) (ends : Lis
   pub outside : Outside r ends ends′
   pub place : r < 16
   pub narrow : width ≤ 8
-  pub shape-size : length shape ≡ 64
+  pub shape-size : length shape ≡ 128
   pub ends-size : length ends ≡ 256
 
 module _ {r kind width bound mask : ℕ} {shape : List ℕ} {ends : List ℤ} {shape′ : List ℕ} {ends′ : List ℤ}
     (s : Stored r kind width bound mask shape ends shape′ ends′) where
-  byte-other : (i k : ℕ) → (i ≡ r → ⊥) → k < 4 → getD shape′ (4 * i + k) 0 ≡ getD shape (4 * i + k) 0
+  byte-other : (i k : ℕ) → (i ≡ r → ⊥) → k < 4 → getD shape′ (8 * i + k) 0 ≡ getD shape (8 * i + k) 0
   byte-other i k h l = rw (s .four) (by-lt i r
-      (λ _ m. shape-other shape r kind width bound mask (4 * i + k) (inl (omega arith)))
-      (λ _ m. shape-other shape r kind width bound mask (4 * i + k) (inr (beyond m))))
+      (λ _ m. shape-other shape r kind width bound mask (8 * i + k) (inl (omega arith)))
+      (λ _ m. shape-other shape r kind width bound mask (8 * i + k) (inr (beyond m))))
     where
-      beyond : r ≤ i → 4 * r + 4 ≤ 4 * i + k
+      beyond : r ≤ i → 8 * r + 4 ≤ 8 * i + k
       beyond m = by-lt r i (λ _ n. omega arith) (λ _ n. let e : i ≡ r = omega arith in absurd (h e))
 
-  there : 4 * r + 3 < length shape
+  there : 8 * r + 3 < length shape
   there = omega (arith, s .place, s .shape-size)
 
   width-here : widthAt shape′ r ≡ width
@@ -69,7 +69,7 @@ module _ {r kind width bound mask : ℕ} {shape : List ℕ} {ends : List ℤ} {s
   pub mask-other : (i : ℕ) → (i ≡ r → ⊥) → maskAt shape′ i ≡ maskAt shape i
   mask-other i h = byte-other i 3 h (omega arith)
 
-  pub shape-kept : length shape′ ≡ 64
+  pub shape-kept : length shape′ ≡ 128
   shape-kept = rw (s .four) (shape-length shape r kind width bound mask ∙ s .shape-size)
 
   pub ends-kept : length ends′ ≡ 256
@@ -147,13 +147,13 @@ table-entered d t r kind width bound mask shape ends shape′ ends′ c e l firs
 
 -- ---- what adds no relation
 
-pub none-entered : (shape : List ℕ) (ends : List ℤ) → length shape ≡ 64 → length ends ≡ 256 → ((k : ℕ) → getD shape k 0 ≡ 0) → Catalogued empty shape ends
+pub none-entered : (shape : List ℕ) (ends : List ℤ) → length shape ≡ 128 → length ends ≡ 256 → ((k : ℕ) → getD shape k 0 ≡ 0) → Catalogued empty shape ends
 unfolding rangesFrom
 none-entered shape ends s e z = record {
   shape-size = s;
   ends-size = e;
-  schemas = λ i. ap₂ (λ b n. record { bound = b; ranges = rangesFrom ends (16 * i) n }) (z (4 * i + 2)) (z (4 * i + 1));
-  widths = λ i. rw (z (4 * i + 1)) (omega arith);
+  schemas = λ i. ap₂ (λ b n. record { bound = b; ranges = rangesFrom ends (16 * i) n }) (z (8 * i + 2)) (z (8 * i + 1));
+  widths = λ i. rw (z (8 * i + 1)) (omega arith);
   masks = λ i h. absurd (omega arith);
 }
 

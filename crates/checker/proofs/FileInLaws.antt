@@ -2,9 +2,9 @@
 use mathlib.Core.Path.{_≡_, refl, sym, ap, _∙_}
 use mathlib.Core.List.{List, [], _∷_, _++_, map, append-assoc}
 use mathlib.Core.Option.{some, Option·none-ne-some}
-use Prim.Native.Nat.{ℕ, zero, suc, _+_, _-_, _≤_}
+use Prim.Native.Nat.{ℕ, zero, suc, _+_, _-_, _≤_, _<_}
 use native.Mathlib.Omega.{arith}
-use lib.ListN.{length, getElem?, drop, length-append, length-map}
+use lib.ListN.{length, getElem?, drop, length-append, length-map, length-drop}
 use lib.Seq.{drop-at, drop-append-add}
 use Rattle.text.specs.Answers.{pack}
 use Rattle.meaning.specs.Syntax.{View, File}
@@ -73,7 +73,7 @@ module _ (F : File) where
 
   module _ (bytes tail : List ℕ) (whole : bytes ≡ pack (fileFrames F) ++ tail) where
     pub view-there : (v : ℕ) (q : View) → query (length (F .tables)) F v ≡ some q
-        → frameAt bytes (startFrom bytes 0 (frameOf (length (F .tables)) (length (F .keys)) v)) ≡ viewBytes q
+        → let at = startFrom bytes 0 (frameOf (length (F .tables)) (length (F .keys)) v) in (frameAt bytes at ≡ viewBytes q) × (at < length bytes)
     view-there v q e =
         let (more, d, l) = view-frames v q e in
         let n = frameOf (length (F .tables)) (length (F .keys)) v in
@@ -81,7 +81,7 @@ module _ (F : File) where
         let here : drop (startFrom bytes 0 n) bytes ≡ length f ∷ f ++ (pack more ++ tail) =
         start-back bytes tail n 0 (fileFrames F) whole l ∙ ap (λ (l : List ℕ). l ++ tail) (ap pack d ∙ pack-cons f more)
         ∙ ap (λ (l : List ℕ). length f ∷ l) (append-assoc f (pack more) tail) in
-        frame-here bytes (startFrom bytes 0 n) f (pack more ++ tail) here .0
+        (frame-here bytes (startFrom bytes 0 n) f (pack more ++ tail) here .0, omega (arith, ap length here, length-drop (startFrom bytes 0 n) bytes))
 
     pub keys-there : (rest : List ℕ) × (drop (startFrom bytes 0 (length (F .tables))) bytes ≡ pack (map keyBytes (F .keys)) ++ rest)
     keys-there = (

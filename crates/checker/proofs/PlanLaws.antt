@@ -9,7 +9,7 @@ use Prim.Native.Nat.{ℕ, _≤_, _<_, min}
 use native.Mathlib.Omega.{arith}
 use lib.Dec.{leb}
 use lib.IntN.{ℤ, pos}
-use lib.ListN.{length, getD, take, drop, replicate, take-append-drop}
+use lib.ListN.{length, take, drop, replicate, take-append-drop}
 use borrow.Author.Tests.{le-leb, lt-leb}
 use Rattle.value.specs.Bag.{All}
 use Rattle.value.proofs.Places.{getD-all}
@@ -30,10 +30,11 @@ use Rattle.language.specs.Written.{fileFrames}
 use Rattle.language.proofs.Readers.{Byte}
 use Rattle.language.proofs.Accepted.{LegalDraft, legal-file, draft-file, Drafted, drafted}
 use Rattle.language.proofs.Turns.{draft, stage-views}
+use Rattle.catalog.specs.Arrays.{startAt}
 use Rattle.catalog.specs.Frames.{frameAt}
 use Rattle.catalog.specs.FileIn.{TablesKnown, FileIn, goalOf}
 use Rattle.catalog.specs.declared.plan.Plan.{Plan}
-use Rattle.catalog.proofs.FileLaws.{table-schema, tables-in}
+use Rattle.catalog.proofs.FileLaws.{table-schema, tables-in, schema-kept}
 use Rattle.checker.specs.CandidateCount.{tooMany, CandidatesOf}
 use Rattle.checker.specs.Standing.{DraftIn, startProgress}
 use Rattle.checker.specs.Plans.{WalkedTo, Walks, startFrom, frameOf, PlanFrom, Plans}
@@ -126,7 +127,7 @@ module _ (text : List ℕ) (r : Frames) (fs : List (List ℕ)) (e : framesOf tex
         }
 
     file-in : {n : ℕ} (k : Ready n) (p : Plan) → PlanFrom (r .bytes) (w .state) shape ends n p → candidates (fileAt (k .draft-is) (k .goal-is)) ≤ candidateLimit
-        → FileIn (fileAt (k .draft-is) (k .goal-is)) (r .bytes) (p .starts) shape ends (p .outline)
+        → FileIn (fileAt (k .draft-is) (k .goal-is)) (r .bytes) (p .shape) ends (p .outline)
     file-in k p P few =
         let F = fileAt (k .draft-is) (k .goal-is) in
         let s = k .held .counts in
@@ -138,19 +139,23 @@ module _ (text : List ℕ) (r : Frames) (fs : List (List ℕ)) (e : framesOf tex
         sym (take-append-drop (r .used) (r .bytes)) ∙ ap (λ (l : List ℕ). l ++ tail) (h .packed ∙ ap pack (k .frames-are)) in
         record {
           legal = L;
+          sized = P .starts .kept .size ∙ known .shape-size;
           tables = o .tables ∙ s .tables;
           keys = o .keys ∙ s .keys;
           relations = o .relations ∙ s .relations;
           views = λ v q e.
               let (_, _, l) = query-split (length (F .tables)) F v q e in
-              let at : getD (p .starts) v 0 ≡ startFrom (r .bytes) 0 (frameOf (length (F .tables)) (length (F .keys)) v) =
-              P .starts .there v (omega (arith, l, L .relationCount)) ∙ ap₂ (λ (m n : ℕ). startFrom (r .bytes) 0 (frameOf m n v)) (s .tables) (s .keys) in
-              ap (frameAt (r .bytes)) at ∙ view-there F (r .bytes) tail whole v q e;
+              let (is, inside) = view-there F (r .bytes) tail whole v q e in
+              let same : startFrom (r .bytes) 0 (frameOf (w .state .tables) (w .state .keys) v) ≡ startFrom (r .bytes) 0 (frameOf (length (F .tables)) (length (F .keys)) v) =
+              ap₂ (λ (m n : ℕ). startFrom (r .bytes) 0 (frameOf m n v)) (s .tables) (s .keys) in
+              let at : startAt (p .shape) v ≡ startFrom (r .bytes) 0 (frameOf (length (F .tables)) (length (F .keys)) v) =
+              P .starts .there v (omega (arith, l, L .relationCount)) (known .shape-size) (omega (arith, same, inside, h .wide)) ∙ same in
+              ap (frameAt (r .bytes)) at ∙ is;
           foreign =
               let (rest, e) = keys-there F (r .bytes) tail whole in
               (rest, ap (λ i. drop i (r .bytes)) (o .foreign ∙ ap (startFrom (r .bytes) 0) (s .tables)) ∙ e);
-          known = known .schemas;
-          masks = known .masks;
+          known = λ i. schema-kept ends (P .starts .kept) (omega arith) i ∙ known .schemas i;
+          masks = λ i l. P .starts .kept .byte i 3 (omega arith) ∙ known .masks i l;
           filled = o .filled .some-row F (sym (s .tables)) (λ i. ap (λ (x : Schema). x .bound) (known .schemas i));
         }
 
@@ -176,7 +181,7 @@ module _ (text : List ℕ) (r : Frames) (fs : List (List ℕ)) (e : framesOf tex
         rw o (record {
           number = P .number;
           line = P .line;
-          file = rw (P .bytes-are, P .shape-is, P .ends-are) (file-in k p P below);
+          file = rw (P .bytes-are, P .ends-are) (file-in k p P below);
           goal = ap goalOf (P .goal) ∙ ap₂ (λ (v : ℕ) (b : Bool). record { view = v; negative = b }) (goal .0) (goal .1);
           candidates-are = P .candidates-are ∙ omega (arith, k .number-is);
         })
@@ -184,8 +189,8 @@ module _ (text : List ℕ) (r : Frames) (fs : List (List ℕ)) (e : framesOf tex
 -- ---- in the code's words
 
 -- nothing is known before the first frame
-pub held-start : DraftIn empty startProgress (replicate 64 0) (replicate 256 (pos 0))
-held-start = record { counts = counts-empty; catalogued = none-entered (replicate 64 0) (replicate 256 (pos 0)) refl refl (λ k. getD-all 64 k 0); fits = fits-empty }
+pub held-start : DraftIn empty startProgress (replicate 128 0) (replicate 256 (pos 0))
+held-start = record { counts = counts-empty; catalogued = none-entered (replicate 128 0) (replicate 256 (pos 0)) refl refl (λ k. getD-all 128 k 0); fits = fits-empty }
 
 module _ (text : List ℕ) (r : Frames) (dec : Decoded (framesOf text) r) where
   pub used-inside : r .number ≡ 0 → r .used ≤ length (r .bytes)
@@ -198,7 +203,7 @@ module _ (text : List ℕ) (r : Frames) (dec : Decoded (framesOf text) r) where
   used-small z = let (fs, e, h) = accepted text r dec z in omega (arith, used-fits h, used-length h)
 
   module _ (z : r .number ≡ 0) (w : Walked) (shape : List ℕ) (ends : List ℤ)
-      (k : Walks (take (r .used) (r .bytes)) (replicate 64 0) (replicate 256 (pos 0)) w shape ends) where
+      (k : Walks (take (r .used) (r .bytes)) (replicate 128 0) (replicate 256 (pos 0)) w shape ends) where
     walked-to : (fs : List (List ℕ)) → Holds fs r → WalkedTo (reach fs empty 1) w shape ends
     walked-to fs h = k .walked fs (h .packed) held-start
 

@@ -7,19 +7,20 @@ use Prim.Native.Nat.{ℕ, zero, suc, _+_, _-_, _≤_, _<_}
 use native.Mathlib.Omega.{arith}
 use lib.Dec.{eqb}
 use lib.IntN.{ℤ}
-use lib.ListN.{length, getD, drop, set, length-drop, length-set, drop-of-length-le}
-use lib.Seq.{getD-set-same, getD-set-other}
+use lib.ListN.{length, getD, drop, length-drop, drop-of-length-le}
 use borrow.Author.Tests.{eqb-true, eqb-false}
 use Rattle.value.proofs.Decides.{by-test}
 use Rattle.value.proofs.Places.{byte-here}
 use Rattle.text.specs.Answers.{pack}
 use Rattle.language.specs.Draft.{Draft, empty}
 use Rattle.language.specs.Check.{Checked, checkFrame, Reached, onward, reach}
+use Rattle.catalog.specs.Arrays.{putStart}
 use Rattle.catalog.specs.Frames.{frameAt}
+use Rattle.catalog.proofs.ArrayLaws.{first-same, first-more, start-kept, start-there, start-other}
 use Rattle.catalog.proofs.FrameLaws.{pack-cons, frame-here}
 use Rattle.checker.specs.Catalogued.{checkedFault}
 use Rattle.checker.specs.Standing.{DraftIn, Stepped, startProgress}
-use Rattle.checker.specs.Plans.{WalkedTo, startFrom, frameOf, StartsOf}
+use Rattle.checker.specs.Plans.{WalkedTo, startFrom, frameOf, StartsPut}
 use Rattle.checker.specs.declared.state.Progress.{Progress}
 use Rattle.checker.specs.declared.step.Step.{Step}
 use Rattle.language.proofs.Steps.{Looked, looked}
@@ -129,17 +130,19 @@ start-back bytes tail (suc n) at (f ∷ fs) e h =
     let i : at + getD bytes at 0 + 1 ≡ at + 1 + length f = omega (arith, byte-here bytes at here .0) in
     ap (λ j. drop (startFrom bytes j n) bytes) i ∙ start-back bytes tail n (at + 1 + length f) fs (frame-here bytes at f (pack fs ++ tail) here .1) (omega arith)
 
-pub starts-none : (packed : List ℕ) (tables keys : ℕ) (starts : List ℕ) → length starts ≡ 16 → StartsOf packed tables keys 0 starts
-starts-none packed tables keys starts e = record { size = e; there = λ r h. absurd (omega arith) }
+pub starts-none : (packed : List ℕ) (tables keys : ℕ) (shape : List ℕ) → StartsPut packed tables keys 0 shape shape
+starts-none packed tables keys shape = record { kept = first-same 4 shape; there = λ r h. absurd (omega arith) }
 
-pub starts-more : (packed : List ℕ) (tables keys n : ℕ) (starts : List ℕ) (x y : ℕ) → n < 16 → StartsOf packed tables keys n starts
-    → y ≡ frameOf tables keys n → x ≡ startFrom packed 0 y → StartsOf packed tables keys (n + 1) (set starts n x)
-starts-more packed tables keys n starts x y l s f e = record {
-  size = length-set starts n x ∙ s .size;
-  there = λ r h. by-test (eqb r n)
+pub starts-more : (packed : List ℕ) (tables keys n : ℕ) (shape shape₁ shape₂ : List ℕ) (x y : ℕ) → n < 16 → StartsPut packed tables keys n shape shape₁
+    → y ≡ frameOf tables keys n → x ≡ startFrom packed 0 y → shape₂ ≡ putStart shape₁ n x → StartsPut packed tables keys (n + 1) shape shape₂
+starts-more packed tables keys n shape shape₁ shape₂ x y l s f e p = record {
+  kept = rw p (first-more (s .kept) (start-kept shape₁ n x));
+  there = λ r h z b. by-test (eqb r n)
       (λ t. let q : r ≡ n = eqb-true r n t in
-      rw q (getD-set-same starts n x 0 (omega (arith, s .size)) ∙ e ∙ ap (startFrom packed 0) f))
-      (λ t. getD-set-other starts n r x 0 (eqb-false r n t) ∙ s .there r (omega (arith, eqb-false r n t)));
+      let here : x ≡ startFrom packed 0 (frameOf tables keys n) = e ∙ ap (startFrom packed 0) f in
+      let small : startFrom packed 0 (frameOf tables keys n) < 65536 = rw q at b in
+      rw (q, p) (start-there shape₁ n x (omega (arith, z, s .kept .size)) (omega (arith, here, small)) ∙ here))
+      (λ t. rw p (start-other shape₁ n x r (eqb-false r n t)) ∙ s .there r (omega (arith, eqb-false r n t)) z b);
 }
 
 -- one frame more, and none
@@ -153,5 +156,6 @@ unfolding startFrom
 start-end packed at zero h = refl
 start-end packed at (suc n) h = absurd (omega arith)
 
-pub starts-full : (packed : List ℕ) (tables keys n : ℕ) (starts : List ℕ) → 16 ≤ n → StartsOf packed tables keys n starts → StartsOf packed tables keys 16 starts
-starts-full packed tables keys n starts h s = record { size = s .size; there = λ r l. s .there r (omega arith) }
+pub starts-full : (packed : List ℕ) (tables keys n : ℕ) (shape shape′ : List ℕ) → 16 ≤ n → StartsPut packed tables keys n shape shape′
+    → StartsPut packed tables keys 16 shape shape′
+starts-full packed tables keys n shape shape′ h s = record { kept = s .kept; there = λ r l. s .there r (omega arith) }

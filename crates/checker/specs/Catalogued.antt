@@ -14,7 +14,7 @@ use Rattle.language.specs.Check.{Checked, readChecked}
 use Rattle.language.specs.Written.{maskOf}
 
 pub record Catalogued (d : Draft) (shape : List ℕ) (ends : List ℤ) : Type 0 where
-  pub shape-size : length shape ≡ 64
+  pub shape-size : length shape ≡ 128
   pub ends-size : length ends ≡ 256
   pub schemas : (i : ℕ) → schemaIn shape ends i ≡ schema (schemasOf d) i
   -- a relation's columns end where the next relation's begin

@@ -9,6 +9,7 @@ use lib.ListN.{length, getD}
 use Rattle.text.specs.Answers.{pack}
 use Rattle.language.specs.Draft.{empty}
 use Rattle.language.specs.Check.{Outcome, Reached, reach}
+use Rattle.catalog.specs.Arrays.{startAt, FirstKept}
 use Rattle.catalog.specs.FileIn.{PlanOf, SomeRow}
 use Rattle.catalog.specs.declared.outline.Outline.{Outline}
 use Rattle.catalog.specs.declared.plan.Plan.{Plan}
@@ -37,9 +38,10 @@ startFrom packed at (suc n) = startFrom packed (at + getD packed at 0 + 1) n
 unfoldable pub frameOf : ℕ → ℕ → ℕ → ℕ
 frameOf tables keys r = cond (ltb r tables) r (r + keys)
 
-pub record StartsOf (packed : List ℕ) (tables keys n : ℕ) (starts : List ℕ) : Type 0 where
-  pub size : length starts ≡ 16
-  pub there : (r : ℕ) → r < n → getD starts r 0 ≡ startFrom packed 0 (frameOf tables keys r)
+-- the places of the first n relations' frames, where these are below 65,536; the four bytes before them stay
+pub record StartsPut (packed : List ℕ) (tables keys n : ℕ) (shape shape′ : List ℕ) : Type 0 where
+  pub kept : FirstKept 4 shape shape′
+  pub there : (r : ℕ) → r < n → length shape ≡ 128 → startFrom packed 0 (frameOf tables keys r) < 65536 → startAt shape′ r ≡ startFrom packed 0 (frameOf tables keys r)
 
 -- ---- the plan
 
@@ -55,8 +57,7 @@ pub record PlanFrom (bytes : List ℕ) (s : Progress) (shape : List ℕ) (ends :
   pub number : p .number ≡ 0
   pub line : p .line ≡ 0
   pub bytes-are : p .bytes ≡ bytes
-  pub starts : StartsOf bytes (s .tables) (s .keys) 16 (p .starts)
-  pub shape-is : p .shape ≡ shape
+  pub starts : StartsPut bytes (s .tables) (s .keys) 16 shape (p .shape)
   pub ends-are : p .ends ≡ ends
   pub outline : OutlineFrom bytes shape s (p .outline)
   pub goal : p .goal ≡ record { view = s .goal; negative = s .negative }

@@ -3,6 +3,7 @@ use super::entries;
 use super::state;
 use super::state::Progress;
 use super::step;
+use catalog::arrays;
 use catalog::frames;
 use catalog::outline;
 use catalog::outline::Outline;
@@ -13,7 +14,7 @@ ghost use mathlib.Core.Path.{_≡_};
 ghost use Prim.Native.Nat.{_≤_};
 ghost use lib.ListN.{length};
 ghost use Rattle.language.specs.FileOf.{fileOf};
-ghost use Rattle.checker.specs.Plans.{Walks, startFrom, frameOf, StartsOf, OutlineFrom, PlanFrom, Plans};
+ghost use Rattle.checker.specs.Plans.{Walks, startFrom, frameOf, StartsPut, OutlineFrom, PlanFrom, Plans};
 
 // How far the frames are taken.
 struct Walked {
@@ -76,18 +77,16 @@ fn frame_of(tables: u8, keys: u8, r: u8) -> u16
     (r as u16) + (keys as u16)
 }
 
-// Where each relation's frame begins.
-fn starts_of(bytes: &[u8], tables: u8, keys: u8) -> [u32; 16]
-    ensures { λ s. ⌜ StartsOf (now (bytes .entry)) tables keys 16 s ⌝ }
+// The place of each relation's frame is noted.
+fn put_starts(bytes: &[u8], tables: u8, keys: u8, shape: &mut [u8])
+    ensures { λ _. ⌜ StartsPut (now (bytes .entry)) tables keys 16 (now (shape .entry)) (now (shape .exit)) ⌝ }
 {
-    let mut starts = [0u32; 16];
     let mut r: u8 = 0;
     while r < 16 {
-        let i = r as usize;
-        starts[i] = start_of(bytes, frame_of(tables, keys, r));
+        let start = start_of(bytes, frame_of(tables, keys, r));
+        arrays::put_start(shape, r, start);
         r = r + 1;
     }
-    starts
 }
 
 // What the evaluation needs beside the arrays, from what was counted.
@@ -109,14 +108,15 @@ fn outline_from(bytes: &[u8], shape: &[u8], s: Progress) -> Outline
 fn plan_from(
     bytes: [u8; text::ROOM],
     s: Progress,
-    shape: [u8; 64],
+    shape: [u8; 128],
     ends: [i32; 256],
     candidates: u64,
 ) -> Plan
     ensures { λ p. ⌜ PlanFrom bytes s shape ends candidates p ⌝ }
 {
-    let starts = starts_of(&bytes, s.tables, s.keys);
     let outline = outline_from(&bytes, &shape, s);
+    let mut located = shape;
+    put_starts(&bytes, s.tables, s.keys, &mut located);
     let goal = Goal {
         view: s.goal,
         negative: s.negative,
@@ -125,8 +125,7 @@ fn plan_from(
         number: 0,
         line: 0,
         bytes: bytes,
-        starts: starts,
-        shape: shape,
+        shape: located,
         ends: ends,
         outline: outline,
         goal: goal,
@@ -152,8 +151,7 @@ fn refusal(number: u8, line: u16) -> Plan
         number: number,
         line: line,
         bytes: [0u8; text::ROOM],
-        starts: [0u32; 16],
-        shape: [0u8; 64],
+        shape: [0u8; 128],
         ends: [0i32; 256],
         outline: outline,
         goal: goal,
@@ -172,7 +170,7 @@ pub fn check(text: &[u8]) -> Plan
     }
     let bytes = frames.bytes;
     let used = frames.used;
-    let mut shape = [0u8; 64];
+    let mut shape = [0u8; 128];
     let mut ends = [0i32; 256];
     let walked = walk(&bytes[..used], &mut shape, &mut ends);
     if walked.number != 0 {

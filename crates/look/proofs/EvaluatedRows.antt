@@ -29,7 +29,7 @@ use Rattle.look.specs.Moves.{CandidatePut, Moved}
 use Rattle.look.specs.Scans.{Setting}
 use Rattle.look.specs.Evaluations.{Prepared, Evaluated, Judged, RowsMean}
 use Rattle.look.proofs.Standing.{digits-given}
-use Rattle.look.proofs.ScanLaws.{placed-at, moved-at, setting, ready, judged}
+use Rattle.look.proofs.ScanLaws.{placed-at, moved-at, setting, ready, judged, digits-kept}
 
 module _ (text : List ℕ) (F : File) (e : fileOf text ≡ Outcome.accepted F) where
   well-formed : wellFormed F ≡ true
@@ -39,16 +39,15 @@ module _ (text : List ℕ) (F : File) (e : fileOf text ≡ Outcome.accepted F) w
   planned {p} c = subst (λ out. Plans out p) e c
 
   -- any candidate is prepared by the calls of a look up to its first test
-  pub placed : (p : Plan) {k : ℕ} {codes counts needed asked : List ℕ} {n : ℕ} {work work′ : List ℤ} → Plans (fileOf text) p
+  pub placed : (p : Plan) {k : ℕ} {codes counts shape : List ℕ} {n : ℕ} {work work′ : List ℤ} → Plans (fileOf text) p
       → CellsOf (p .shape) (p .outline .tables) (replicate 512 0) n codes → TablesCounted (p .shape) (p .outline .tables) (replicate 16 0) counts
-      → NeedsOf (p .bytes) (p .starts) (p .outline) (p .goal) (replicate 16 0) (replicate 16 0) needed asked
+      → NeedsOf (p .bytes) (p .shape) (p .outline) (p .goal) shape
       → area ≤ length work → CandidatePut (p .shape) (p .ends) codes n k work work′ → Prepared text F k
-  placed p {counts = counts} {needed} {asked} {work′ = work′} c D C N whole P =
+  placed p {counts = counts} {shape} {work′ = work′} c D C N whole P =
       let M = planned c .file in
       record {
         plan = p;
-        needed = needed;
-        asked = asked;
+        shape = shape;
         counts = counts;
         refuted = replicate 16 0;
         work = work′;
@@ -61,30 +60,29 @@ module _ (text : List ℕ) (F : File) (e : fileOf text ≡ Outcome.accepted F) w
     plan-of : PlanOf F (P .plan)
     plan-of = planned (P .checked)
 
-    set-up : Setting F (P .plan .bytes) (P .plan .starts) (P .plan .shape) (P .plan .ends) (P .needed) (P .asked) (P .plan .outline) (P .plan .goal)
+    set-up : Setting F (P .plan .bytes) (P .shape) (P .plan .ends) (P .plan .outline) (P .plan .goal)
     set-up = setting (plan-of .file) (plan-of .goal) (P .flagged)
 
     -- the next candidate is prepared by the test of this one and the move to that one
     pub moved : {r : Bool} {codes counts′ refuted′ : List ℕ} {n next : ℕ} {work′ work″ : List ℤ} → CellsOf (P .plan .shape) (P .plan .outline .tables) (replicate 512 0) n codes
-        → Judged P r counts′ refuted′ work′ → Moved (P .plan .shape) (P .plan .ends) codes n k next work′ work″ → Prepared text F next
+        → Judged P r counts′ refuted′ work′ → Moved (P .shape) (P .plan .ends) codes n k next work′ work″ → Prepared text F next
     moved {counts′ = counts′} {refuted′} {work″ = work″} D J M = record {
       plan = P .plan;
-      needed = P .needed;
-      asked = P .asked;
+      shape = P .shape;
       counts = counts′;
       refuted = refuted′;
       work = work″;
       checked = P .checked;
       flagged = P .flagged;
-      stands = moved-at (plan-of .file) (digits-given (plan-of .file) D refl) (J .kept) (J .refuted-size) M (P .stands);
+      stands = moved-at (set-up .file) (digits-kept (P .flagged .first) (digits-given (plan-of .file) D refl)) (J .kept) (J .refuted-size) M (P .stands);
     }
 
     -- "Each view's rows, counted as a bag, are those of the Extended Relational Algebra"
     pub evaluated-rows : {counts′ refuted′ : List ℕ} {work′ : List ℤ} → Evaluated P counts′ refuted′ work′
-        → RowsMean F (database F k) (P .needed) counts′ work′
+        → RowsMean F (database F k) (P .shape) counts′ work′
     evaluated-rows E = record {
-      relation = λ i h f. subst (MeaningOf F (database F k) i) (sym (E .known (plan-of .file) (ready set-up (P .stands)) .rows-known i h f)) (rows-mean F well-formed (database F k) i);
-      goal = λ s. subst (λ b. Wants (P .needed) (P .asked) b (F .goal .view)) s (set-up .covers .goal);
+      relation = λ i h f. subst (MeaningOf F (database F k) i) (sym (E .known (set-up .file) (ready set-up (P .stands)) .rows-known i h f)) (rows-mean F well-formed (database F k) i);
+      goal = λ s. subst (λ b. Wants (P .shape) b (F .goal .view)) s (set-up .covers .goal);
     }
 
     -- "a database is a positive or negative case exactly by Definitions 1 to 4"

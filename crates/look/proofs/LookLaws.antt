@@ -45,34 +45,34 @@ concluded-spent {end} {n} h = record { concludes = rw (ne-eqb end n h) }
 zeros-same : (a b : List ℤ) → length a ≡ length b → zeros a ≡ zeros b
 zeros-same a b e = ap (λ n. replicate n (pos 0)) e
 
-digits : {F : File} {bytes starts shape : List ℕ} {ends : List ℤ} {o : Outline} {m : ℕ} {codes : List ℕ} → FileIn F bytes starts shape ends o
+digits : {F : File} {bytes shape : List ℕ} {ends : List ℤ} {o : Outline} {m : ℕ} {codes : List ℕ} → FileIn F bytes shape ends o
     → CellsOf shape (o .tables) (replicate 512 0) m codes → Digits F shape ends codes m
 digits M C = digits-given M C refl
 
-pub finds-short : {bytes starts shape : List ℕ} {ends : List ℤ} {o : Outline} {g : Goal} {n start count : ℕ} {work inst : List ℤ} {m : ℕ} {codes : List ℕ}
-    → CellsOf shape (o .tables) (replicate 512 0) m codes → length inst < m → Looked bytes starts shape ends o g n start count work inst (Refused 12 0) work inst
+pub finds-short : {bytes shape : List ℕ} {ends : List ℤ} {o : Outline} {g : Goal} {n start count : ℕ} {work inst : List ℤ} {m : ℕ} {codes : List ℕ}
+    → CellsOf shape (o .tables) (replicate 512 0) m codes → length inst < m → Looked bytes shape ends o g n start count work inst (Refused 12 0) work inst
 finds-short {start = start} {count} {work} {inst} C h = record {
   finds = λ F M f e whole. sym (look-short F start count work inst whole (omega (arith, digits M C .number)));
 }
 
-pub finds-late : {bytes starts shape : List ℕ} {ends : List ℤ} {o : Outline} {g : Goal} {n start count : ℕ} {work inst : List ℤ} {m : ℕ} {codes : List ℕ}
+pub finds-late : {bytes shape : List ℕ} {ends : List ℤ} {o : Outline} {g : Goal} {n start count : ℕ} {work inst : List ℤ} {m : ℕ} {codes : List ℕ}
     → CellsOf shape (o .tables) (replicate 512 0) m codes → m ≤ length inst → n < start
-    → Looked bytes starts shape ends o g n start count work inst (Refused 13 0) work inst
+    → Looked bytes shape ends o g n start count work inst (Refused 13 0) work inst
 finds-late {start = start} {count} {work} {inst} C h l = record {
   finds = λ F M f e whole. sym (look-late F start count work inst whole (omega (arith, digits M C .number)) (omega arith));
 }
 
 -- the search of a look that is not refused has come to k
-pub record Sought (bytes starts shape : List ℕ) (ends : List ℤ) (o : Outline) (g : Goal) (n start count : ℕ) (work inst : List ℤ) (codes : List ℕ) (m end k : ℕ) (work₁ : List ℤ) : Type 0 where
+pub record Sought (bytes shape : List ℕ) (ends : List ℤ) (o : Outline) (g : Goal) (n start count : ℕ) (work inst : List ℤ) (codes : List ℕ) (m end k : ℕ) (work₁ : List ℤ) : Type 0 where
   pub coded : CellsOf shape (o .tables) (replicate 512 0) m codes
   pub room : m ≤ length inst
   pub from : start ≤ n
   pub to : end ≡ min (start + count) n
-  pub search : Searched bytes starts shape ends o g codes m start end work k work₁
+  pub search : Searched bytes shape ends o g codes m start end work k work₁
 
-module _ {bytes starts shape : List ℕ} {ends : List ℤ} {o : Outline} {g : Goal} {n start count : ℕ} {work inst : List ℤ} {codes : List ℕ} {m end k : ℕ} {work₁ : List ℤ}
-    (S : Sought bytes starts shape ends o g n start count work inst codes m end k work₁) where
-  module _ (F : File) (M : FileIn F bytes starts shape ends o) (f : goalOf g ≡ F .goal) (e : n ≡ candidates F) (whole : workSize ≤ length work) where
+module _ {bytes shape : List ℕ} {ends : List ℤ} {o : Outline} {g : Goal} {n start count : ℕ} {work inst : List ℤ} {codes : List ℕ} {m end k : ℕ} {work₁ : List ℤ}
+    (S : Sought bytes shape ends o g n start count work inst codes m end k work₁) where
+  module _ (F : File) (M : FileIn F bytes shape ends o) (f : goalOf g ≡ F .goal) (e : n ≡ candidates F) (whole : workSize ≤ length work) where
     found : (k ≡ seek (isCaseAt F) start (end - start)) × (k < end → cellsIn work₁ (codesOf F) ≡ cells F k)
     found = S .search .found F M f (digits M (S .coded)) whole (omega (arith, S .from, S .to))
 
@@ -83,7 +83,7 @@ module _ {bytes starts shape : List ℕ} {ends : List ℤ} {o : Outline} {g : Go
         ∙ ap (λ i. afterSearch F end i work inst) (sym (found .0))
 
   pub finds-case : {work₂ inst₂ : List ℤ} → k < end → Shows codes m work₁ inst inst₂ → work₂ ≡ zeros work₁
-      → Looked bytes starts shape ends o g n start count work inst (Case k) work₂ inst₂
+      → Looked bytes shape ends o g n start count work inst (Case k) work₂ inst₂
   finds-case {work₂} {inst₂} h W z = record {
     finds = λ F M f e whole.
         let D : Digits F shape ends codes m = digits M (S .coded) in
@@ -95,7 +95,7 @@ module _ {bytes starts shape : List ℕ} {ends : List ℤ} {o : Outline} {g : Go
   }
 
   pub finds-none : {work₂ : List ℤ} {r : Answered} → end ≤ k → work₂ ≡ zeros work₁ → Concludes end n r
-      → Looked bytes starts shape ends o g n start count work inst r work₂ inst
+      → Looked bytes shape ends o g n start count work inst r work₂ inst
   finds-none {work₂} {r} h z R = record {
     finds = λ F M f e whole.
         let w : work₂ ≡ zeros work = z ∙ zeros-same work₁ work (S .search .length-kept) in
@@ -130,7 +130,7 @@ module _ {p : Plan} {start count : ℕ} {work inst : List ℤ} where
   }
 
   pub at-file : {r : Answered} {work′ inst′ : List ℤ} → length work′ ≡ length work → length inst′ ≡ length inst → workSize ≤ length work
-      → p .number ≡ 0 → Looked (p .bytes) (p .starts) (p .shape) (p .ends) (p .outline) (p .goal) (p .candidates) start count work inst r work′ inst′
+      → p .number ≡ 0 → Looked (p .bytes) (p .shape) (p .ends) (p .outline) (p .goal) (p .candidates) start count work inst r work′ inst′
       → LooksAt p start count work inst r work′ inst′
   at-file w i whole z L = record {
     work-size = w;

@@ -21,9 +21,11 @@ use Rattle.meaning.proofs.Elements.{map-same}
 use Rattle.meaning.proofs.Seeks.{sought-one}
 use Rattle.language.specs.Legal.{Legal}
 use Rattle.language.proofs.LegalAccepted.{legal-wellFormed}
+use Rattle.catalog.specs.Arrays.{FirstKept}
 use Rattle.catalog.specs.FileIn.{FileIn, TablesCounted, goalOf}
 use Rattle.catalog.specs.declared.outline.Outline.{Outline}
 use Rattle.catalog.specs.declared.plan.Goal.{Goal}
+use Rattle.catalog.proofs.FileLaws.{file-kept, column-kept}
 use Rattle.store.specs.Layout.{area}
 use Rattle.store.proofs.RowLaws.{cell-of-rows}
 use Rattle.views.proofs.Marking.{never}
@@ -63,8 +65,8 @@ module _ {F : File} (L : Legal F) where
 -- ---- a candidate stands in the work area
 
 -- a candidate that was placed
-pub placed-at : {F : File} {bytes starts shape : List ℕ} {ends : List ℤ} {o : Outline} {codes : List ℕ} {n k : ℕ} {work work₁ : List ℤ} {counts : List ℕ}
-    → FileIn F bytes starts shape ends o → Digits F shape ends codes n → TablesCounted shape (o .tables) (replicate 16 0) counts
+pub placed-at : {F : File} {bytes shape : List ℕ} {ends : List ℤ} {o : Outline} {codes : List ℕ} {n k : ℕ} {work work₁ : List ℤ} {counts : List ℕ}
+    → FileIn F bytes shape ends o → Digits F shape ends codes n → TablesCounted shape (o .tables) (replicate 16 0) counts
     → area ≤ length work → CandidatePut shape ends codes n k work work₁ → At F counts (replicate 16 0) work₁ k
 placed-at {F} G D C whole P = record {
   counts-size = C .size;
@@ -75,8 +77,8 @@ placed-at {F} G D C whole P = record {
 }
 
 -- the next one, after a test and a move
-pub moved-at : {F : File} {bytes starts shape : List ℕ} {ends : List ℤ} {o : Outline} {codes : List ℕ} {n k next : ℕ} {counts refuted counts₁ refuted₁ : List ℕ} {work work₁ work₂ : List ℤ}
-    → FileIn F bytes starts shape ends o → Digits F shape ends codes n → TablesKept (o .tables) counts work counts₁ work₁ → length refuted₁ ≡ length refuted
+pub moved-at : {F : File} {bytes shape : List ℕ} {ends : List ℤ} {o : Outline} {codes : List ℕ} {n k next : ℕ} {counts refuted counts₁ refuted₁ : List ℕ} {work work₁ work₂ : List ℤ}
+    → FileIn F bytes shape ends o → Digits F shape ends codes n → TablesKept (o .tables) counts work counts₁ work₁ → length refuted₁ ≡ length refuted
     → Moved shape ends codes n k next work₁ work₂ → At F counts refuted work k → At F counts₁ refuted₁ work₂ next
 moved-at {F} G D K e M A = record {
   counts-size = K .counts-size ∙ A .counts-size;
@@ -89,17 +91,16 @@ moved-at {F} G D K e M A = record {
 -- ---- a candidate is tested
 
 -- the flags of the file's own goal
-pub setting : {F : File} {bytes starts shape : List ℕ} {ends : List ℤ} {needed asked : List ℕ} {o : Outline} {g : Goal}
-    → FileIn F bytes starts shape ends o → goalOf g ≡ F .goal → NeedsOf bytes starts o g (replicate 16 0) (replicate 16 0) needed asked
-    → Setting F bytes starts shape ends needed asked o g
-setting {F} {needed = needed} {asked} M e N = record {
-  file = M;
+pub setting : {F : File} {bytes shape shape′ : List ℕ} {ends : List ℤ} {o : Outline} {g : Goal} → FileIn F bytes shape ends o → goalOf g ≡ F .goal
+    → NeedsOf bytes shape o g shape′ → Setting F bytes shape′ ends o g
+setting {F} {shape′ = shape′} M e N = record {
+  file = file-kept M (N .first);
   goal = e;
-  covers = subst (λ x. GoalIn F x → Covers F x needed asked) e (λ h. N .covers M h refl refl) (M .legal .goal);
+  covers = subst (λ x. GoalIn F x → Covers F x shape′) e (λ h. N .covers M h) (M .legal .goal);
 }
 
-pub ready : {F : File} {bytes starts shape : List ℕ} {ends : List ℤ} {needed asked : List ℕ} {o : Outline} {g : Goal} {counts refuted : List ℕ} {work : List ℤ} {k : ℕ}
-    → Setting F bytes starts shape ends needed asked o g → At F counts refuted work k → Ready F (F .goal) (database F k) needed asked counts refuted work
+pub ready : {F : File} {bytes shape : List ℕ} {ends : List ℤ} {o : Outline} {g : Goal} {counts refuted : List ℕ} {work : List ℤ} {k : ℕ}
+    → Setting F bytes shape ends o g → At F counts refuted work k → Ready F (F .goal) (database F k) shape counts refuted work
 ready {F} {counts = counts} {work = work} {k = k} P A = record {
   covers = P .covers;
   shaped = every-database F (legal-wellFormed F (P .file .legal)) .shaped k;
@@ -109,13 +110,13 @@ ready {F} {counts = counts} {work = work} {k = k} P A = record {
   refuted-size = A .refuted-size;
 }
 
-module _ {bytes starts shape needed asked : List ℕ} {o : Outline} {g : Goal} {k : ℕ} {counts refuted : List ℕ} {work : List ℤ} {counts′ refuted′ : List ℕ} {work′ : List ℤ} {b : Bool}
-    (J : IsCase bytes starts shape needed asked o g counts refuted work b counts′ refuted′ work′) where
-  pub judged : (F : File) {ends : List ℤ} → Setting F bytes starts shape ends needed asked o g → At F counts refuted work k → b ≡ isCaseAt F k
+module _ {bytes shape : List ℕ} {o : Outline} {g : Goal} {k : ℕ} {counts refuted : List ℕ} {work : List ℤ} {counts′ refuted′ : List ℕ} {work′ : List ℤ} {b : Bool}
+    (J : IsCase bytes shape o g counts refuted work b counts′ refuted′ work′) where
+  pub judged : (F : File) {ends : List ℤ} → Setting F bytes shape ends o g → At F counts refuted work k → b ≡ isCaseAt F k
   unfolding isCaseAt
-  judged F P A = subst (λ x. Ready F x (database F k) needed asked counts refuted work → b ≡ isCase F x (database F k)) (P .goal) (J .case (P .file)) (ready P A)
+  judged F P A = subst (λ x. Ready F x (database F k) shape counts refuted work → b ≡ isCase F x (database F k)) (P .goal) (J .case (P .file)) (ready P A)
 
-  pub tests-case : k < 18446744073709551615 → b ≡ true → Tested bytes starts shape needed asked o g k counts refuted work k counts′ refuted′ work′
+  pub tests-case : k < 18446744073709551615 → b ≡ true → Tested bytes shape o g k counts refuted work k counts′ refuted′ work′
   tests-case l e = record {
     kept = J .kept;
     refuted-size = J .refuted-size;
@@ -128,7 +129,7 @@ module _ {bytes starts shape needed asked : List ℕ} {o : Outline} {g : Goal} {
     };
   }
 
-  pub tests-none : k < 18446744073709551615 → b ≡ false → Tested bytes starts shape needed asked o g k counts refuted work (k + 1) counts′ refuted′ work′
+  pub tests-none : k < 18446744073709551615 → b ≡ false → Tested bytes shape o g k counts refuted work (k + 1) counts′ refuted′ work′
   tests-none l e = record {
     kept = J .kept;
     refuted-size = J .refuted-size;
@@ -144,18 +145,18 @@ module _ {bytes starts shape needed asked : List ℕ} {o : Outline} {g : Goal} {
 -- ---- the loop
 
 -- nothing from the start on and before k is a case, and the cells of candidate k stand in the work area
-pub record Scanned (bytes starts shape : List ℕ) (ends : List ℤ) (needed asked : List ℕ) (o : Outline) (g : Goal)
+pub record Scanned (bytes shape : List ℕ) (ends : List ℤ) (o : Outline) (g : Goal)
     (codes : List ℕ) (n start : ℕ) (counts refuted : List ℕ) (work : List ℤ) (k : ℕ) (counts′ refuted′ : List ℕ) (work′ : List ℤ) : Type 0 where
   pub from : start ≤ k
   pub length-kept : length work′ ≡ length work
   pub counts-size : length counts′ ≡ length counts
   pub refuted-size : length refuted′ ≡ length refuted
-  pub here : (F : File) → Setting F bytes starts shape ends needed asked o g → Digits F shape ends codes n → At F counts refuted work start → At F counts′ refuted′ work′ k
-  pub none : (F : File) → Setting F bytes starts shape ends needed asked o g → Digits F shape ends codes n → At F counts refuted work start
+  pub here : (F : File) → Setting F bytes shape ends o g → Digits F shape ends codes n → At F counts refuted work start → At F counts′ refuted′ work′ k
+  pub none : (F : File) → Setting F bytes shape ends o g → Digits F shape ends codes n → At F counts refuted work start
       → (j : ℕ) → start ≤ j → j < k → isCaseAt F j ≡ false
 
-module _ {bytes starts shape : List ℕ} {ends : List ℤ} {needed asked : List ℕ} {o : Outline} {g : Goal} {codes : List ℕ} {n start : ℕ} {counts refuted : List ℕ} {work : List ℤ} where
-  pub scanned-none : Scanned bytes starts shape ends needed asked o g codes n start counts refuted work start counts refuted work
+module _ {bytes shape : List ℕ} {ends : List ℤ} {o : Outline} {g : Goal} {codes : List ℕ} {n start : ℕ} {counts refuted : List ℕ} {work : List ℤ} where
+  pub scanned-none : Scanned bytes shape ends o g codes n start counts refuted work start counts refuted work
   scanned-none = record {
     from = omega arith;
     length-kept = refl;
@@ -165,10 +166,10 @@ module _ {bytes starts shape : List ℕ} {ends : List ℤ} {needed asked : List 
     none = λ F P D A j a b. absurd (omega arith);
   }
 
-  module _ {k r : ℕ} {counts₁ refuted₁ : List ℕ} {work₁ : List ℤ} (S : Scanned bytes starts shape ends needed asked o g codes n start counts refuted work k counts₁ refuted₁ work₁)
-      {counts₂ refuted₂ : List ℕ} {work₂ : List ℤ} (T : Tested bytes starts shape needed asked o g k counts₁ refuted₁ work₁ r counts₂ refuted₂ work₂) where
+  module _ {k r : ℕ} {counts₁ refuted₁ : List ℕ} {work₁ : List ℤ} (S : Scanned bytes shape ends o g codes n start counts refuted work k counts₁ refuted₁ work₁)
+      {counts₂ refuted₂ : List ℕ} {work₂ : List ℤ} (T : Tested bytes shape o g k counts₁ refuted₁ work₁ r counts₂ refuted₂ work₂) where
     pub scanned-more : (r ≡ k → ⊥) → {work₃ : List ℤ} → Moved shape ends codes n k r work₂ work₃
-        → Scanned bytes starts shape ends needed asked o g codes n start counts refuted work r counts₂ refuted₂ work₃
+        → Scanned bytes shape ends o g codes n start counts refuted work r counts₂ refuted₂ work₃
     scanned-more d {work₃} M = record {
       from = omega (arith, S .from, T .follows);
       length-kept = M .length-kept ∙ T .kept .size ∙ S .length-kept;
@@ -182,7 +183,7 @@ module _ {bytes starts shape : List ℕ} {ends : List ℤ} {needed asked : List 
           (λ c. c));
     }
 
-    pub scanned-found : {end : ℕ} → k < end → r ≡ k → Scans bytes starts shape ends needed asked o g codes n start end counts refuted work k work₂
+    pub scanned-found : {end : ℕ} → k < end → r ≡ k → Scans bytes shape ends o g codes n start end counts refuted work k work₂
     scanned-found {end} l e = record {
       length-kept = T .kept .size ∙ S .length-kept;
       found = λ F P D A h.
@@ -197,8 +198,8 @@ module _ {bytes starts shape : List ℕ} {ends : List ℤ} {needed asked : List 
           );
     }
 
-  pub scanned-all : {k end : ℕ} {counts₁ refuted₁ : List ℕ} {work₁ : List ℤ} → Scanned bytes starts shape ends needed asked o g codes n start counts refuted work k counts₁ refuted₁ work₁
-      → end ≤ k → Scans bytes starts shape ends needed asked o g codes n start end counts refuted work end work₁
+  pub scanned-all : {k end : ℕ} {counts₁ refuted₁ : List ℕ} {work₁ : List ℤ} → Scanned bytes shape ends o g codes n start counts refuted work k counts₁ refuted₁ work₁
+      → end ≤ k → Scans bytes shape ends o g codes n start end counts refuted work end work₁
   scanned-all {k} {end} S l = record {
     length-kept = S .length-kept;
     found = λ F P D A h. (
@@ -214,11 +215,19 @@ module _ {bytes starts shape : List ℕ} {ends : List ℤ} {needed asked : List 
 
 -- ---- the search
 
-pub searches : {bytes starts shape : List ℕ} {ends : List ℤ} {o : Outline} {g : Goal} {codes : List ℕ} {n start end : ℕ} {work work₁ work₂ : List ℤ} {counts needed asked : List ℕ} {r : ℕ}
-    → TablesCounted shape (o .tables) (replicate 16 0) counts → NeedsOf bytes starts o g (replicate 16 0) (replicate 16 0) needed asked
-    → CandidatePut shape ends codes n start work work₁ → Scans bytes starts shape ends needed asked o g codes n start end counts (replicate 16 0) work₁ r work₂
-    → Searched bytes starts shape ends o g codes n start end work r work₂
-searches {shape = shape} C N P S = record {
+-- the flags are no part of what tells the cells
+pub digits-kept : {F : File} {shape shape′ : List ℕ} {ends : List ℤ} {codes : List ℕ} {n : ℕ} → FirstKept 6 shape shape′ → Digits F shape ends codes n → Digits F shape′ ends codes n
+digits-kept {F} {shape} {shape′} {ends} k D = record {
+  legal = D .legal;
+  codes-are = D .codes-are;
+  columns = map-same _ _ (all-map (λ x h. column-kept ends k (omega arith) (x / 32) (x % 4)) (codes-tables (D .legal))) ∙ D .columns;
+  number = D .number;
+}
+
+pub searches : {bytes shape shape′ : List ℕ} {ends : List ℤ} {o : Outline} {g : Goal} {codes : List ℕ} {n start end : ℕ} {work work₁ work₂ : List ℤ} {counts : List ℕ} {r : ℕ}
+    → TablesCounted shape (o .tables) (replicate 16 0) counts → CandidatePut shape ends codes n start work work₁ → NeedsOf bytes shape o g shape′
+    → Scans bytes shape′ ends o g codes n start end counts (replicate 16 0) work₁ r work₂ → Searched bytes shape ends o g codes n start end work r work₂
+searches C P N S = record {
   length-kept = S .length-kept ∙ P .length-kept;
-  found = λ F M e D whole h. S .found F (setting M e N) D (placed-at M D C whole P) h;
+  found = λ F M e D whole h. S .found F (setting M e N) (digits-kept (N .first) D) (placed-at M D C whole P) h;
 }

@@ -98,7 +98,7 @@ module _ (shape : List ℕ) (ends : List ℤ) where
 
 -- ---- the codes of a file in memory
 
-module _ {F : File} {bytes starts shape : List ℕ} {ends : List ℤ} {o : Outline} (M : FileIn F bytes starts shape ends o) where
+module _ {F : File} {bytes shape : List ℕ} {ends : List ℤ} {o : Outline} (M : FileIn F bytes shape ends o) where
   given-codes : allCodes (boundAt shape) (widthAt shape) (o .tables) ≡ codesOf F
   unfolding codesOf
   given-codes =
@@ -114,7 +114,7 @@ module _ {F : File} {bytes starts shape : List ℕ} {ends : List ℤ} {o : Outli
 length-codesOf : (F : File) → length (codesOf F) ≡ length (cellColumns (F .tables))
 length-codesOf F = ap length (codes-of F) ∙ length-codes 0 (F .tables)
 
-pub digits-given : {F : File} {bytes starts shape : List ℕ} {ends : List ℤ} {o : Outline} {codes codes′ : List ℕ} {r : ℕ} → FileIn F bytes starts shape ends o
+pub digits-given : {F : File} {bytes shape : List ℕ} {ends : List ℤ} {o : Outline} {codes codes′ : List ℕ} {r : ℕ} → FileIn F bytes shape ends o
     → CellsOf shape (o .tables) codes r codes′ → length codes ≡ 512 → Digits F shape ends codes′ r
 digits-given {F} {codes = codes} {r = r} M c n =
     let same = given-codes M in

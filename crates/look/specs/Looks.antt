@@ -29,8 +29,8 @@ answerOf (Refused n l) = Answer.refused n l
 pub record Concludes (end n : ℕ) (r : Answered) : Type 0 where
   pub concludes : answerOf r ≡ cond (eqb end n) Answer.noCase (Answer.spent end)
 
-pub record Looked (bytes starts shape : List ℕ) (ends : List ℤ) (o : Outline) (g : Goal) (n start count : ℕ) (work inst : List ℤ) (r : Answered) (work′ inst′ : List ℤ) : Type 0 where
-  pub finds : (F : File) → FileIn F bytes starts shape ends o → goalOf g ≡ F .goal → n ≡ candidates F → workSize ≤ length work
+pub record Looked (bytes shape : List ℕ) (ends : List ℤ) (o : Outline) (g : Goal) (n start count : ℕ) (work inst : List ℤ) (r : Answered) (work′ inst′ : List ℤ) : Type 0 where
+  pub finds : (F : File) → FileIn F bytes shape ends o → goalOf g ≡ F .goal → n ≡ candidates F → workSize ≤ length work
       → After.after (answerOf r) work′ inst′ ≡ look F start count work inst
 
 -- a look at a plan: of the plan of a file, and of a refusal's

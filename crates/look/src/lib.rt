@@ -37,8 +37,7 @@ fn concluded(end: u64, n: u64) -> Answer
 // A look at an accepted file of n candidates.
 fn looked(
     bytes: &[u8],
-    starts: &[u32],
-    shape: &[u8],
+    shape: &mut [u8],
     ends: &[i32],
     o: Outline,
     goal: Goal,
@@ -48,7 +47,7 @@ fn looked(
     work: &mut [i32],
     instance: &mut [i16],
 ) -> Answer
-    ensures { λ r. ⌜ Looked (now (bytes .entry)) (now (starts .entry)) (now (shape .entry)) (now (ends .entry)) o goal n start count (now (work .entry)) (now (instance .entry)) r (now (work .exit)) (now (instance .exit)) ⌝ }
+    ensures { λ r. ⌜ Looked (now (bytes .entry)) (now (shape .entry)) (now (ends .entry)) o goal n start count (now (work .entry)) (now (instance .entry)) r (now (work .exit)) (now (instance .exit)) ⌝ }
 {
     let mut codes = [0u16; 512];
     let cells = cells::cells_of(shape, o.tables, &mut codes);
@@ -59,19 +58,7 @@ fn looked(
         return Answer::Refused(13, 0);
     }
     let end = buffers::end_of(start, count, n);
-    let k = scan::search(
-        bytes,
-        starts,
-        shape,
-        ends,
-        o,
-        goal,
-        &codes,
-        cells,
-        start,
-        end,
-        work,
-    );
+    let k = scan::search(bytes, shape, ends, o, goal, &codes, cells, start, end, work);
     if k < end {
         buffers::show(&codes, cells, work, instance);
         buffers::clear(work);
@@ -94,13 +81,11 @@ pub fn look_at(p: Plan, start: u64, count: u64, work: &mut [i32], instance: &mut
         return Answer::Refused(p.number, p.line);
     }
     let bytes = p.bytes;
-    let starts = p.starts;
-    let shape = p.shape;
+    let mut shape = p.shape;
     let ends = p.ends;
     looked(
         &bytes,
-        &starts,
-        &shape,
+        &mut shape,
         &ends,
         p.outline,
         p.goal,

@@ -11,10 +11,7 @@ ghost use Rattle.look.specs.Scans.{Tested, Scans, Searched};
 // Candidate k, whose cells stand in the work area, if it is a case; else the candidate to go on with.
 fn tested(
     bytes: &[u8],
-    starts: &[u32],
     shape: &[u8],
-    needed: &[u8],
-    asked: &[u8],
     o: Outline,
     goal: Goal,
     k: u64,
@@ -23,20 +20,9 @@ fn tested(
     work: &mut [i32],
 ) -> u64
     requires { ⌜ k < 18446744073709551615 ⌝ }
-    ensures { λ r. ⌜ Tested (now (bytes .entry)) (now (starts .entry)) (now (shape .entry)) (now (needed .entry)) (now (asked .entry)) o goal k (now (counts .entry)) (now (refuted .entry)) (now (work .entry)) r (now (counts .exit)) (now (refuted .exit)) (now (work .exit)) ⌝ }
+    ensures { λ r. ⌜ Tested (now (bytes .entry)) (now (shape .entry)) o goal k (now (counts .entry)) (now (refuted .entry)) (now (work .entry)) r (now (counts .exit)) (now (refuted .exit)) (now (work .exit)) ⌝ }
 {
-    if judgement::is_case(
-        bytes,
-        starts,
-        shape,
-        needed,
-        asked,
-        o,
-        goal,
-        counts,
-        refuted,
-        work,
-    ) {
+    if judgement::is_case(bytes, shape, o, goal, counts, refuted, work) {
         return k;
     }
     k + 1
@@ -46,11 +32,8 @@ fn tested(
 // case then.
 fn scan(
     bytes: &[u8],
-    starts: &[u32],
     shape: &[u8],
     ends: &[i32],
-    needed: &[u8],
-    asked: &[u8],
     o: Outline,
     goal: Goal,
     codes: &[u16],
@@ -61,23 +44,11 @@ fn scan(
     refuted: &mut [u8],
     work: &mut [i32],
 ) -> u64
-    ensures { λ r. ⌜ Scans (now (bytes .entry)) (now (starts .entry)) (now (shape .entry)) (now (ends .entry)) (now (needed .entry)) (now (asked .entry)) o goal (now (codes .entry)) cells start end (now (counts .entry)) (now (refuted .entry)) (now (work .entry)) r (now (work .exit)) ⌝ }
+    ensures { λ r. ⌜ Scans (now (bytes .entry)) (now (shape .entry)) (now (ends .entry)) o goal (now (codes .entry)) cells start end (now (counts .entry)) (now (refuted .entry)) (now (work .entry)) r (now (work .exit)) ⌝ }
 {
     let mut k = start;
     while k < end {
-        let next = tested(
-            bytes,
-            starts,
-            shape,
-            needed,
-            asked,
-            o,
-            goal,
-            k,
-            counts,
-            refuted,
-            work,
-        );
+        let next = tested(bytes, shape, o, goal, k, counts, refuted, work);
         if next == k {
             return k;
         }
@@ -87,12 +58,11 @@ fn scan(
     end
 }
 
-// The same, where nothing is set up yet.
-// Refused: the cells of candidate 0 for any start; flags for 15 relations.
+// The same, where nothing is set up yet; the flags of `shape` are set.
+// Refused: the cells of candidate 0 for any start; signs for 15 relations.
 pub fn search(
     bytes: &[u8],
-    starts: &[u32],
-    shape: &[u8],
+    shape: &mut [u8],
     ends: &[i32],
     o: Outline,
     goal: Goal,
@@ -102,22 +72,17 @@ pub fn search(
     end: u64,
     work: &mut [i32],
 ) -> u64
-    ensures { λ r. ⌜ Searched (now (bytes .entry)) (now (starts .entry)) (now (shape .entry)) (now (ends .entry)) o goal (now (codes .entry)) cells start end (now (work .entry)) r (now (work .exit)) ⌝ }
+    ensures { λ r. ⌜ Searched (now (bytes .entry)) (now (shape .entry)) (now (ends .entry)) o goal (now (codes .entry)) cells start end (now (work .entry)) r (now (work .exit)) ⌝ }
 {
     let mut counts = [0u8; 16];
     outline::count_tables(shape, o.tables, &mut counts);
-    let mut needed = [0u8; 16];
-    let mut asked = [0u8; 16];
-    needs::needs_of(bytes, starts, o, goal, &mut needed, &mut asked);
-    let mut refuted = [0u8; 16];
     moves::put_candidate(shape, ends, codes, cells, start, work);
+    needs::needs_of(bytes, shape, o, goal);
+    let mut refuted = [0u8; 16];
     scan(
         bytes,
-        starts,
         shape,
         ends,
-        &needed,
-        &asked,
         o,
         goal,
         codes,

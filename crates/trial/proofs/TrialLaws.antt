@@ -5,7 +5,7 @@ use mathlib.Core.List.{List}
 use Prim.Native.Nat.{ℕ, _+_, _*_, _≤_}
 use native.Mathlib.Omega.{arith}
 use lib.IntN.{ℤ}
-use lib.ListN.{length, replicate, getD-replicate}
+use lib.ListN.{length, replicate}
 use Rattle.value.proofs.Decides.{dec-true, true-dec}
 use Rattle.meaning.specs.Syntax.{File, Database}
 use Rattle.meaning.specs.Algebra.{MeaningOf}
@@ -21,10 +21,11 @@ use Rattle.catalog.specs.FileIn.{TablesCounted, goalOf}
 use Rattle.catalog.specs.declared.outline.Outline.{Outline}
 use Rattle.catalog.specs.declared.plan.Goal.{Goal}
 use Rattle.catalog.specs.declared.plan.Plan.{Plan}
+use Rattle.catalog.proofs.FileLaws.{file-kept}
 use Rattle.checker.specs.Plans.{Plans}
 use Rattle.store.specs.Layout.{area}
 use Rattle.cases.specs.TablesIn.{TablesIn}
-use Rattle.cases.specs.Needs.{GoalIn, NeedsOf}
+use Rattle.cases.specs.Needs.{GoalIn, AllSet, NeedsOf}
 use Rattle.cases.specs.Judgement.{Ready, Evaluates, IsCase}
 use Rattle.cases.proofs.Preparing.{counts-are, tables-kept, all-covers}
 use Rattle.trial.specs.Tried.{TablesStand, Evaluated, ByAlgebra, EveryRelation, Tried}
@@ -38,26 +39,25 @@ refused-trial (Outcome.accepted F) p h k counts work = absurd (k (h .number))
 
 -- ---- an accepted text
 
-pub every-relation : {bytes starts shape : List ℕ} {o : Outline} {g : Goal} {counts counts₁ counts₂ counts₃ needed asked refuted₁ refuted₂ : List ℕ}
-    {work work₂ work₃ : List ℤ} {b : Bool}
-    → TablesCounted shape (o .tables) counts counts₁ → NeedsOf bytes starts o g (replicate 16 0) (replicate 16 0) needed asked
-    → IsCase bytes starts shape needed asked o g counts₁ (replicate 16 0) work b counts₂ refuted₁ work₂
-    → Evaluates bytes starts shape (replicate 16 1) (replicate 16 1) o counts₂ refuted₁ work₂ counts₃ refuted₂ work₃
-    → EveryRelation bytes starts shape o g counts work b counts₃ work₃
-every-relation {g = g} {counts₁ = counts₁} {counts₂} {needed = needed} {asked} {refuted₁} {work = work} {work₂} C N J E = record {
+pub every-relation : {bytes shape shape₁ shape₂ : List ℕ} {o : Outline} {g : Goal} {counts counts₁ counts₂ counts₃ refuted₁ refuted₂ : List ℕ} {work work₂ work₃ : List ℤ} {b : Bool}
+    → TablesCounted shape (o .tables) counts counts₁ → NeedsOf bytes shape o g shape₁
+    → IsCase bytes shape₁ o g counts₁ (replicate 16 0) work b counts₂ refuted₁ work₂ → AllSet 16 shape₁ shape₂
+    → Evaluates bytes shape₂ o counts₂ refuted₁ work₂ counts₃ refuted₂ work₃ → EveryRelation bytes shape o g counts work b counts₃ work₃
+every-relation {shape₁ = shape₁} {shape₂} {g = g} {counts₁ = counts₁} {counts₂} {refuted₁ = refuted₁} {work = work} {work₂} C N J S E = record {
   evaluated = λ F M e d shaped T whole size.
       let tables : TablesIn F d counts₁ work = record { table = λ t h. rw (counts-are M C size t h) (T .table t h) } in
       let goal : GoalIn F (goalOf g) = subst (GoalIn F) (sym e) (M .legal .goal) in
-      let first : Ready F (goalOf g) d needed asked counts₁ (replicate 16 0) work = record {
-        covers = N .covers M goal refl refl;
+      let M₁ = file-kept M (N .first) in
+      let first : Ready F (goalOf g) d shape₁ counts₁ (replicate 16 0) work = record {
+        covers = N .covers M goal;
         shaped = shaped;
         tables = tables;
         whole = whole;
         counts-size = C .size ∙ size;
         refuted-size = refl;
       } in
-      let second : Ready F (goalOf g) d (replicate 16 1) (replicate 16 1) counts₂ refuted₁ work₂ = record {
-        covers = all-covers (M .legal) (goalOf g) goal;
+      let second : Ready F (goalOf g) d shape₂ counts₂ refuted₁ work₂ = record {
+        covers = all-covers (M .legal) (M₁ .sized) S (goalOf g) goal;
         shaped = shaped;
         tables = tables-kept (M .tables) (J .kept) tables;
         whole = omega (arith, J .kept .size);
@@ -65,13 +65,13 @@ every-relation {g = g} {counts₁ = counts₁} {counts₂} {needed = needed} {as
         refuted-size = J .refuted-size;
       } in
       record {
-        case = ap (λ x. cond x 1 0) (J .case M first ∙ ap (λ x. isCase F x d) e);
-        relation = λ i h. E .known M second .rows-known i h (record { on = getD-replicate 16 i 1 0 (omega (arith, M .legal .relationCount)) });
+        case = ap (λ x. cond x 1 0) (J .case M₁ first ∙ ap (λ x. isCase F x d) e);
+        relation = λ i h. E .known (file-kept M₁ (S .more .first)) second .rows-known i h (S .flag (M₁ .sized) false i (omega (arith, M .legal .relationCount)));
       };
 }
 
 pub accepted-trial : (out : Outcome) (p : Plan) {counts counts′ : List ℕ} {work work′ : List ℤ} {b : Bool} {r : ℕ} → Plans out p → p .number ≡ 0
-    → EveryRelation (p .bytes) (p .starts) (p .shape) (p .outline) (p .goal) counts work b counts′ work′ → r ≡ cond b 1 0 → Tried out counts work r counts′ work′
+    → EveryRelation (p .bytes) (p .shape) (p .outline) (p .goal) counts work b counts′ work′ → r ≡ cond b 1 0 → Tried out counts work r counts′ work′
 accepted-trial (Outcome.refused n line) p h z E v = absurd (h .2 (sym (h .0) ∙ z))
 accepted-trial (Outcome.accepted F) p {counts′ = counts′} {work′ = work′} h z E v = λ d shaped T whole size.
     subst (λ k. Evaluated F d k counts′ work′) (sym v) (E .evaluated F (h .file) (h .goal) d shaped T whole size)

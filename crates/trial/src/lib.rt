@@ -11,44 +11,20 @@ ghost use Rattle.trial.specs.Tried.{EveryRelation, Tried};
 // Whether the database is a case; then every relation is evaluated.
 fn every_relation(
     bytes: &[u8],
-    starts: &[u32],
-    shape: &[u8],
+    shape: &mut [u8],
     o: Outline,
     goal: Goal,
     counts: &mut [u8],
     work: &mut [i32],
 ) -> bool
-    ensures { λ r. ⌜ EveryRelation (now (bytes .entry)) (now (starts .entry)) (now (shape .entry)) o goal (now (counts .entry)) (now (work .entry)) r (now (counts .exit)) (now (work .exit)) ⌝ }
+    ensures { λ r. ⌜ EveryRelation (now (bytes .entry)) (now (shape .entry)) o goal (now (counts .entry)) (now (work .entry)) r (now (counts .exit)) (now (work .exit)) ⌝ }
 {
     outline::count_tables(shape, o.tables, counts);
-    let mut needed = [0u8; 16];
-    let mut asked = [0u8; 16];
-    needs::needs_of(bytes, starts, o, goal, &mut needed, &mut asked);
+    needs::needs_of(bytes, shape, o, goal);
     let mut refuted = [0u8; 16];
-    let case = judgement::is_case(
-        bytes,
-        starts,
-        shape,
-        &needed,
-        &asked,
-        o,
-        goal,
-        counts,
-        &mut refuted,
-        work,
-    );
-    let all = [1u8; 16];
-    judgement::evaluate(
-        bytes,
-        starts,
-        shape,
-        &all,
-        &all,
-        o,
-        counts,
-        &mut refuted,
-        work,
-    );
+    let case = judgement::is_case(bytes, shape, o, goal, counts, &mut refuted, work);
+    needs::set_all(shape);
+    judgement::evaluate(bytes, shape, o, counts, &mut refuted, work);
     case
 }
 
@@ -65,9 +41,8 @@ pub extern "C" fn sakthveim_evaluate(text: &[u8], counts: &mut [u8], work: &mut 
         return (p.number as u32) * 65536 + (p.line as u32);
     }
     let bytes = p.bytes;
-    let starts = p.starts;
-    let shape = p.shape;
-    if every_relation(&bytes, &starts, &shape, p.outline, p.goal, counts, work) {
+    let mut shape = p.shape;
+    if every_relation(&bytes, &mut shape, p.outline, p.goal, counts, work) {
         1
     } else {
         0

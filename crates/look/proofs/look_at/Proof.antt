@@ -20,9 +20,6 @@ slice-aggregate-looked-2 c = search needs
 slice-aggregate-looked-3 : tie.Need-slice-aggregate-looked-3
 slice-aggregate-looked-3 c = search needs
 
-slice-aggregate-looked-4 : tie.Need-slice-aggregate-looked-4
-slice-aggregate-looked-4 c = search needs
-
 looked-requires : tie.Need-looked-requires
 looked-requires c κs = search needs
 
@@ -34,8 +31,8 @@ same-length-2 c = search needs
 
 returns-3 : tie.Need-returns-3
 returns-3 c =
-    at-file (search needs) (search needs) (omega arith) (c .before .before .before .before .before .before .before .before .before .before .before .before .before .if2 .left)
-    (c .before .before .looked .ensures)
+    at-file (search needs) (search needs) (omega arith) (c .before .before .before .before .before .before .before .before .before .before .before .before .if2 .left)
+    (c .before .before .before .looked .ensures)
 
 pub look-at-spec : {M : Type 1} → statement M
 look-at-spec =
@@ -46,7 +43,6 @@ look-at-spec =
     slice-aggregate-looked
     slice-aggregate-looked-2
     slice-aggregate-looked-3
-    slice-aggregate-looked-4
     looked-requires
     same-length
     same-length-2

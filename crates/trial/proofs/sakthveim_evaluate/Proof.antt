@@ -31,9 +31,6 @@ slice-aggregate-every-relation c = search needs
 slice-aggregate-every-relation-2 : tie.Need-slice-aggregate-every-relation-2
 slice-aggregate-every-relation-2 c = search needs
 
-slice-aggregate-every-relation-3 : tie.Need-slice-aggregate-every-relation-3
-slice-aggregate-every-relation-3 c = search needs
-
 every-relation-requires : tie.Need-every-relation-requires
 every-relation-requires c κs = search needs
 
@@ -45,11 +42,11 @@ same-length-2 c = search needs
 
 returns-2 : tie.Need-returns-2
 returns-2 c =
-    accepted-trial (fileOf (c .before .before .before .before .before .before .before .before .before .before .before .before .before .before .before .before .before .before .args .text .now))
-    (c .before .before .before .before .before .before .before .before .before .before .before .before .before .before .before .check .result)
-    (c .before .before .before .before .before .before .before .before .before .before .before .before .before .before .before .check .ensures)
-    (c .before .before .before .before .before .before .before .before .before .before .before .before .before .if1 .left)
-    (c .before .before .before .before .every-relation .ensures) (rw (c .if2 .taken))
+    accepted-trial (fileOf (c .before .before .before .before .before .before .before .before .before .before .before .before .before .before .before .before .before .args .text .now))
+    (c .before .before .before .before .before .before .before .before .before .before .before .before .before .before .check .result)
+    (c .before .before .before .before .before .before .before .before .before .before .before .before .before .before .check .ensures)
+    (c .before .before .before .before .before .before .before .before .before .before .before .before .if1 .left)
+    (c .before .before .before .before .before .every-relation .ensures) (rw (c .if2 .taken))
 
 same-length-3 : tie.Need-same-length-3
 same-length-3 c = search needs
@@ -59,11 +56,11 @@ same-length-4 c = search needs
 
 returns-3 : tie.Need-returns-3
 returns-3 c =
-    accepted-trial (fileOf (c .before .before .before .before .before .before .before .before .before .before .before .before .before .before .before .before .before .before .args .text .now))
-    (c .before .before .before .before .before .before .before .before .before .before .before .before .before .before .before .check .result)
-    (c .before .before .before .before .before .before .before .before .before .before .before .before .before .before .before .check .ensures)
-    (c .before .before .before .before .before .before .before .before .before .before .before .before .before .if1 .left)
-    (c .before .before .before .before .every-relation .ensures) (rw (c .if2 .left))
+    accepted-trial (fileOf (c .before .before .before .before .before .before .before .before .before .before .before .before .before .before .before .before .before .args .text .now))
+    (c .before .before .before .before .before .before .before .before .before .before .before .before .before .before .check .result)
+    (c .before .before .before .before .before .before .before .before .before .before .before .before .before .before .check .ensures)
+    (c .before .before .before .before .before .before .before .before .before .before .before .before .if1 .left)
+    (c .before .before .before .before .before .every-relation .ensures) (rw (c .if2 .left))
 
 pub sakthveim-evaluate-spec : {M : Type 1} → statement M
 sakthveim-evaluate-spec =
@@ -77,7 +74,6 @@ sakthveim-evaluate-spec =
     returns
     slice-aggregate-every-relation
     slice-aggregate-every-relation-2
-    slice-aggregate-every-relation-3
     every-relation-requires
     same-length
     same-length-2

@@ -9,11 +9,11 @@ use Rattle.cases.proofs.judgement.evaluate.Statement.{statement}
 use Rattle.cases.proofs.judgement.evaluate.Tie as tie
 
 abbrev Inv-loop : tie.InvT-loop
-Inv-loop bytes starts shape needed asked o counts₀ refuted₀ work₀ v₀ counts refuted work v =
-    Turned bytes starts shape needed asked o counts₀ refuted₀ work₀ counts refuted work v × (length counts ≡ length counts₀) × (length refuted ≡ length refuted₀) × (length work ≡ length work₀)
+Inv-loop bytes shape o counts₀ refuted₀ work₀ v₀ counts refuted work v =
+    Turned bytes shape o counts₀ refuted₀ work₀ counts refuted work v × (length counts ≡ length counts₀) × (length refuted ≡ length refuted₀) × (length work ≡ length work₀)
 
 abbrev μ-loop : tie.MeasureT-loop
-μ-loop bytes starts shape needed asked o counts₀ refuted₀ work₀ v₀ counts refuted work v = o .relations - v
+μ-loop bytes shape o counts₀ refuted₀ work₀ v₀ counts refuted work v = o .relations - v
 
 loop-holds : tie.Need-loop-holds Inv-loop μ-loop
 loop-holds c = (turned-none, refl, refl, refl)

@@ -6,7 +6,7 @@ use Rattle.cases.proofs.judgement.is_case.Statement.{statement}
 use Rattle.cases.proofs.judgement.is_case.Tie as tie
 
 returns : tie.Need-returns
-returns c = case-empty (not-true (c .before .before .before .before .before .before .before .before .before .args .o .filled) (c .if1 .taken))
+returns c = case-empty (not-true _ (c .if1 .taken))
 
 is-valid-requires : tie.Need-is-valid-requires
 is-valid-requires c κs = search needs
@@ -36,8 +36,7 @@ same-length-5 : tie.Need-same-length-5
 same-length-5 c = search needs
 
 returns-3 : tie.Need-returns-3
-returns-3 c = case-valid (not-false
-    (c .before .before .before .before .before .before .before .before .before .before .before .before .before .before .before .before .before .before .before .before .before .before .before .before .before .args .o .filled)
+returns-3 c = case-valid (not-false _
     (c .before .before .before .before .before .before .before .before .before .before .before .before .before .before .before .before .if1 .left))
     (c .before .before .before .before .before .before .before .before .before .before .before .before .before .is-valid .ensures) (not-false
     (c .before .before .before .before .before .before .before .before .before .before .before .before .before .is-valid .result)

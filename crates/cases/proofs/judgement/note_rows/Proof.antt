@@ -1,14 +1,15 @@
 -- `cases::judgement::note_rows` meets its contract. Assumes nothing.
+use borrow.Author.Tests.{not-true}
 use borrow.Author.Needs.{needs}
 use Rattle.cases.proofs.JudgementLaws.{rows-unneeded, rows-noted}
 use Rattle.cases.proofs.judgement.note_rows.Statement.{statement}
 use Rattle.cases.proofs.judgement.note_rows.Tie as tie
 
-byte-at-requires : tie.Need-byte-at-requires
-byte-at-requires c κs = search needs
+is-needed-requires : tie.Need-is-needed-requires
+is-needed-requires c κs = search needs
 
 returns : tie.Need-returns
-returns c = rows-unneeded (c .before .byte-at .ensures) (c .if1 .taken)
+returns c = rows-unneeded (c .before .is-needed .ensures) (not-true (c .before .is-needed .result) (c .if1 .taken))
 
 view-rows-requires : tie.Need-view-rows-requires
 view-rows-requires c κs = search needs
@@ -29,7 +30,7 @@ pub note-rows-spec : {M : Type 1} → statement M
 note-rows-spec =
     tie.close
     (tie.spec
-    byte-at-requires
+    is-needed-requires
     returns
     view-rows-requires
     put-byte-requires

@@ -1,14 +1,15 @@
 -- `cases::judgement::note_sign` meets its contract. Assumes nothing.
+use borrow.Author.Tests.{not-true}
 use borrow.Author.Needs.{needs}
 use Rattle.cases.proofs.JudgementLaws.{sign-unasked, sign-noted}
 use Rattle.cases.proofs.judgement.note_sign.Statement.{statement}
 use Rattle.cases.proofs.judgement.note_sign.Tie as tie
 
-byte-at-requires : tie.Need-byte-at-requires
-byte-at-requires c κs = search needs
+is-asked-requires : tie.Need-is-asked-requires
+is-asked-requires c κs = search needs
 
 returns : tie.Need-returns
-returns c = sign-unasked (c .before .byte-at .ensures) (c .if1 .taken)
+returns c = sign-unasked (c .before .is-asked .ensures) (not-true (c .before .is-asked .result) (c .if1 .taken))
 
 is-refuted-requires : tie.Need-is-refuted-requires
 is-refuted-requires c κs = search needs
@@ -32,7 +33,7 @@ pub note-sign-spec : {M : Type 1} → statement M
 note-sign-spec =
     tie.close
     (tie.spec
-    byte-at-requires
+    is-asked-requires
     returns
     is-refuted-requires
     one-if-requires

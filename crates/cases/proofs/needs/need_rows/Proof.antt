@@ -1,5 +1,6 @@
 -- `cases::needs::need_rows` meets its contract. Assumes nothing.
 use native.Mathlib.Omega.{arith}
+use borrow.Author.Tests.{not-true}
 use borrow.Author.Needs.{needs}
 use Rattle.cases.proofs.FlagLaws.{no-flag}
 use Rattle.cases.proofs.NeedLaws.{rows-set, rows-kept}
@@ -9,8 +10,8 @@ use Rattle.cases.proofs.needs.need_rows.Tie as tie
 names-requires : tie.Need-names-requires
 names-requires c κs = search needs
 
-byte-at-requires : tie.Need-byte-at-requires
-byte-at-requires c κs = search needs
+is-needed-requires : tie.Need-is-needed-requires
+is-needed-requires c κs = search needs
 
 set-names-requires : tie.Need-set-names-requires
 set-names-requires c κs = search needs
@@ -21,23 +22,25 @@ same-length c = search needs
 returns : tie.Need-returns
 returns c = rows-set (c .before .before .before .before .before .before .before .names .ensures) (c .before .before .set-names .ensures)
 
-byte-at-requires-2 : tie.Need-byte-at-requires-2
-byte-at-requires-2 c κs = search needs
+is-asked-requires : tie.Need-is-asked-requires
+is-asked-requires c κs = search needs
 
 same-length-2 : tie.Need-same-length-2
 same-length-2 c = search needs
 
 returns-2 : tie.Need-returns-2
-returns-2 c = rows-kept _ _ _ _ (no-flag (c .before .before .before .byte-at .ensures) (c .before .before .if1 .left)) (λ f. absurd (no-flag (c .before .byte-at2 .ensures) (c .if2 .taken) f))
+returns-2 c = rows-kept _ _ _ (no-flag (c .before .before .before .before .is-needed .ensures) (c .before .before .before .if1 .left)) (λ f. absurd (no-flag
+    (c .before .is-asked .ensures) (not-true (c .before .is-asked .result) (c .if2 .taken)) f))
 
-byte-at-requires-3 : tie.Need-byte-at-requires-3
-byte-at-requires-3 c κs = search needs
+byte-at-requires : tie.Need-byte-at-requires
+byte-at-requires c κs = search needs
 
 same-length-3 : tie.Need-same-length-3
 same-length-3 c = search needs
 
 returns-3 : tie.Need-returns-3
-returns-3 c = rows-kept _ _ _ _ (no-flag (c .before .before .before .before .before .byte-at .ensures) (c .before .before .before .before .if1 .left)) (λ f. omega (arith, c .before .byte-at3 .ensures, c .if3 .taken))
+returns-3 c = rows-kept _ _ _ (no-flag (c .before .before .before .before .before .before .is-needed .ensures) (c .before .before .before .before .before .if1 .left))
+    (λ f. omega (arith, c .before .byte-at .ensures, c .if3 .taken))
 
 set-names-requires-2 : tie.Need-set-names-requires-2
 set-names-requires-2 c κs = search needs
@@ -46,21 +49,21 @@ same-length-4 : tie.Need-same-length-4
 same-length-4 c = search needs
 
 returns-4 : tie.Need-returns-4
-returns-4 c = rows-set (c .before .before .before .before .before .before .before .before .before .before .before .names .ensures) (c .before .before .set-names2 .ensures)
+returns-4 c = rows-set (c .before .before .before .before .before .before .before .before .before .before .before .before .names .ensures) (c .before .before .set-names2 .ensures)
 
 pub need-rows-spec : {M : Type 1} → statement M
 need-rows-spec =
     tie.close
     (tie.spec
     names-requires
-    byte-at-requires
+    is-needed-requires
     set-names-requires
     same-length
     returns
-    byte-at-requires-2
+    is-asked-requires
     same-length-2
     returns-2
-    byte-at-requires-3
+    byte-at-requires
     same-length-3
     returns-3
     set-names-requires-2

@@ -1,28 +1,29 @@
 -- `cases::needs::need_signs` meets its contract. Assumes nothing.
 use native.Mathlib.Omega.{arith}
+use borrow.Author.Tests.{not-true}
 use borrow.Author.Needs.{needs}
 use Rattle.cases.proofs.FlagLaws.{no-flag}
 use Rattle.cases.proofs.NeedLaws.{signs-set, signs-kept}
 use Rattle.cases.proofs.needs.need_signs.Statement.{statement}
 use Rattle.cases.proofs.needs.need_signs.Tie as tie
 
-byte-at-requires : tie.Need-byte-at-requires
-byte-at-requires c κs = search needs
+is-asked-requires : tie.Need-is-asked-requires
+is-asked-requires c κs = search needs
 
 same-length : tie.Need-same-length
 same-length c = search needs
 
 returns : tie.Need-returns
-returns c = signs-kept _ _ _ (λ f. absurd (no-flag (c .before .byte-at .ensures) (c .if1 .taken) f))
+returns c = signs-kept _ _ _ (λ f. absurd (no-flag (c .before .is-asked .ensures) (not-true (c .before .is-asked .result) (c .if1 .taken)) f))
 
-byte-at-requires-2 : tie.Need-byte-at-requires-2
-byte-at-requires-2 c κs = search needs
+byte-at-requires : tie.Need-byte-at-requires
+byte-at-requires c κs = search needs
 
 same-length-2 : tie.Need-same-length-2
 same-length-2 c = search needs
 
 returns-2 : tie.Need-returns-2
-returns-2 c = signs-kept _ _ _ (λ f. omega (arith, c .before .byte-at2 .ensures, c .if2 .taken))
+returns-2 c = signs-kept _ _ _ (λ f. omega (arith, c .before .byte-at .ensures, c .if2 .taken))
 
 names-requires : tie.Need-names-requires
 names-requires c κs = search needs
@@ -40,10 +41,10 @@ pub need-signs-spec : {M : Type 1} → statement M
 need-signs-spec =
     tie.close
     (tie.spec
-    byte-at-requires
+    is-asked-requires
     same-length
     returns
-    byte-at-requires-2
+    byte-at-requires
     same-length-2
     returns-2
     names-requires

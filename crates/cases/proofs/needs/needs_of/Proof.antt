@@ -8,16 +8,16 @@ use Rattle.cases.proofs.needs.needs_of.Statement.{statement}
 use Rattle.cases.proofs.needs.needs_of.Tie as tie
 
 abbrev Inv-loop : tie.InvT-loop
-Inv-loop bytes starts o needed₀ asked₀ v₀ needed asked v = (v ≤ o .relations) × Reached bytes starts o v needed₀ asked₀ needed asked
+Inv-loop bytes shape₀ o v₀ shape v = (v ≤ o .relations) × Reached bytes o v shape₀ shape
 
 abbrev μ-loop : tie.MeasureT-loop
-μ-loop bytes starts o needed₀ asked₀ v₀ needed asked v = v
+μ-loop bytes shape₀ o v₀ shape v = v
 
-need-goal-requires : tie.Need-need-goal-requires Inv-loop μ-loop
-need-goal-requires c κs = search needs
+set-flag-requires : tie.Need-set-flag-requires Inv-loop μ-loop
+set-flag-requires c κs = search needs
 
 loop-holds : tie.Need-loop-holds Inv-loop μ-loop
-loop-holds c = (omega arith, reached-none (c .before .before .before .before .before .before .before .before .before .before .before .args .o) _ _)
+loop-holds c = (omega arith, reached-none (c .before .before .before .before .before .before .args .o) _)
 
 sub-v : tie.Need-sub-v Inv-loop μ-loop
 sub-v c = search needs
@@ -40,17 +40,15 @@ loop-again c = (
   reached-next (c .before .before .before .before .before .before .before .before .before .before .if1 .taken)
       (c .before .before .before .before .before .before .before .before .before .before .before .before .loop .inv .0)
       (c .before .before .before .before .before .before .before .before .before .before .before .before .loop .inv .1)
-      (c .before .before .before .before .before .before .before .before .before .frame-of .ensures) (c .before .before .before .before .before .before .need-rows .ensures) (c .before .before .need-signs .ensures),
+      (c .before .before .before .before .before .before .before .before .frame-of .ensures) (c .before .before .before .before .before .before .need-rows .ensures)
+      (c .before .before .need-signs .ensures),
 )
 
 same-length : tie.Need-same-length Inv-loop μ-loop
-same-length c = c .before .before .loop .inv .1 .needed-more .size ∙ c .before .before .before .before .before .before .before .need-goal .ensures .needed-more .size
-
-same-length-2 : tie.Need-same-length-2 Inv-loop μ-loop
-same-length-2 c = c .before .before .loop .inv .1 .asked-more .size ∙ c .before .before .before .before .before .before .before .need-goal .ensures .asked-more .size
+same-length c = c .before .before .loop .inv .1 .more .first .size ∙ search needs
 
 returns : tie.Need-returns Inv-loop μ-loop
-returns c = needs-all (c .before .before .before .before .before .before .before .need-goal .ensures) (c .if1 .left) (c .before .before .loop .inv .1)
+returns c = needs-all (c .before .before .before .before .before .set-flag .ensures) (c .if1 .left) (c .before .before .loop .inv .1)
 
 pub needs-of-spec : {M : Type 1} → statement M
 needs-of-spec =
@@ -58,7 +56,7 @@ needs-of-spec =
     (tie.spec
     Inv-loop
     μ-loop
-    need-goal-requires
+    set-flag-requires
     loop-holds
     sub-v
     frame-of-requires
@@ -67,5 +65,4 @@ needs-of-spec =
     loop-less
     loop-again
     same-length
-    same-length-2
     returns)

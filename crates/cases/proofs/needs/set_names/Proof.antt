@@ -4,28 +4,25 @@ use Prim.Native.Nat.{_-_, _≤_}
 use native.Mathlib.Omega.{arith}
 use lib.ListN.{length, take}
 use borrow.Author.Needs.{needs}
-use Rattle.cases.specs.Needs.{NamesSet}
-use Rattle.cases.proofs.FlagLaws.{names-none, names-more, names-all}
+use Rattle.cases.specs.Needs.{flagOf, NamesSet}
+use Rattle.cases.proofs.FlagLaws.{flag-low, flag-high, names-none, names-more, names-all}
 use Rattle.cases.proofs.needs.set_names.Statement.{statement}
 use Rattle.cases.proofs.needs.set_names.Tie as tie
 
 abbrev Inv-loop : tie.InvT-loop
-Inv-loop names flags₀ i₀ flags i = (i ≤ length names) × (length flags ≡ length flags₀) × NamesSet (take i names) flags₀ flags
+Inv-loop names shape₀ asked i₀ shape i = (i ≤ length names) × (length shape ≡ length shape₀) × NamesSet (flagOf asked) (take i names) shape₀ shape
 
 abbrev μ-loop : tie.MeasureT-loop
-μ-loop names flags₀ i₀ flags i = length names - i
+μ-loop names shape₀ asked i₀ shape i = length names - i
 
 loop-holds : tie.Need-loop-holds Inv-loop μ-loop
-loop-holds c = (omega arith, refl, names-none (c .before .before .args .names .now) _)
+loop-holds c = (omega arith, refl, names-none _ (c .before .before .args .names .now) _)
 
 byte-at-requires : tie.Need-byte-at-requires Inv-loop μ-loop
 byte-at-requires c κs = search needs
 
-cast-named : tie.Need-cast-named Inv-loop μ-loop
-cast-named c = search needs
-
-put-byte-requires : tie.Need-put-byte-requires Inv-loop μ-loop
-put-byte-requires c κs = search needs
+set-flag-requires : tie.Need-set-flag-requires Inv-loop μ-loop
+set-flag-requires c κs = search needs
 
 add-i : tie.Need-add-i Inv-loop μ-loop
 add-i c = search needs
@@ -37,8 +34,9 @@ loop-again : tie.Need-loop-again Inv-loop μ-loop
 loop-again c = (
   omega arith,
   search needs,
-  names-more _ _ _ _ _ _ (c .before .before .before .before .before .loop-test .taken) (c .before .before .before .before .before .before .loop .inv .2)
-      (c .before .before .before .before .byte-at .ensures) (c .before .before .put-byte .ensures),
+  names-more _ (flag-low (c .before .before .before .before .before .before .before .before .before .args .asked)) (flag-high
+      (c .before .before .before .before .before .before .before .before .before .args .asked)) _ _ _ _ _ _ (c .before .before .before .before .before .loop-test .taken)
+      (c .before .before .before .before .before .before .loop .inv .2) (c .before .before .before .before .byte-at .ensures) (c .before .before .set-flag .ensures),
 )
 
 same-length : tie.Need-same-length Inv-loop μ-loop
@@ -55,8 +53,7 @@ set-names-spec =
     μ-loop
     loop-holds
     byte-at-requires
-    cast-named
-    put-byte-requires
+    set-flag-requires
     add-i
     loop-less
     loop-again

@@ -7,11 +7,11 @@ use Rattle.look.proofs.scan.scan.Statement.{statement}
 use Rattle.look.proofs.scan.scan.Tie as tie
 
 abbrev Inv-loop : tie.InvT-loop
-Inv-loop bytes starts shape ends needed asked o goal codes cells start end counts₀ refuted₀ work₀ k₀ counts refuted work k =
-    Scanned bytes starts shape ends needed asked o goal codes cells start counts₀ refuted₀ work₀ k counts refuted work
+Inv-loop bytes shape ends o goal codes cells start end counts₀ refuted₀ work₀ k₀ counts refuted work k =
+    Scanned bytes shape ends o goal codes cells start counts₀ refuted₀ work₀ k counts refuted work
 
 abbrev μ-loop : tie.MeasureT-loop
-μ-loop bytes starts shape ends needed asked o goal codes cells start end counts₀ refuted₀ work₀ k₀ counts refuted work k = end - k
+μ-loop bytes shape ends o goal codes cells start end counts₀ refuted₀ work₀ k₀ counts refuted work k = end - k
 
 loop-holds : tie.Need-loop-holds Inv-loop μ-loop
 loop-holds c = scanned-none

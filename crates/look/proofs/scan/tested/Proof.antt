@@ -19,7 +19,7 @@ same-length-3 c = search needs
 returns : tie.Need-returns
 returns c =
     tests-case (c .before .before .before .before .before .before .is-case .ensures)
-    (c .before .before .before .before .before .before .before .before .before .before .before .before .before .before .before .before .before .pre) (c .if1 .taken)
+    (search needs) (c .if1 .taken)
 
 add-result : tie.Need-add-result
 add-result c = search needs
@@ -36,7 +36,7 @@ same-length-6 c = search needs
 returns-2 : tie.Need-returns-2
 returns-2 c =
     tests-none (c .before .before .before .before .before .before .is-case .ensures)
-    (c .before .before .before .before .before .before .before .before .before .before .before .before .before .before .before .before .before .pre) (c .if1 .left)
+    (search needs) (c .if1 .left)
 
 pub tested-spec : {M : Type 1} → statement M
 tested-spec =
