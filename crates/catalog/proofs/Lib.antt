@@ -2,5 +2,6 @@
 pub mod ArrayLaws
 pub mod TableLaws
 pub mod FrameLaws
+pub mod ItemLaws
 pub mod ViewParts
 pub mod FileLaws

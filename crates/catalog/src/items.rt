@@ -1,0 +1,68 @@
+// The from items that are open where an expression stands: the relation of each.
+use crate::arrays;
+use slice::byte_at;
+ghost use mathlib.Core.Path.{_≡_};
+ghost use Prim.Native.Nat.{min};
+ghost use lib.ListN.{length, getD};
+ghost use Rattle.catalog.specs.Items.{bytesAt, relationsIn, itemsOf, widthsIn};
+
+// Of the six places the first `number` count.
+pub struct Items {
+    pub relations: [u8; 6],
+    pub number: u8,
+}
+
+// A number, at most 6.
+fn at_most_six(n: usize) -> u8
+    ensures { λ r. ⌜ r ≡ min n 6 ⌝ }
+{
+    if n < 6 { n as u8 } else { 6 }
+}
+
+// The first six names, 0 past the last.
+fn six_of(names: &[u8]) -> [u8; 6]
+    ensures { λ r. ⌜ r ≡ bytesAt (now (names .entry)) 0 6 ⌝ }
+{
+    [
+        byte_at(names, 0),
+        byte_at(names, 1),
+        byte_at(names, 2),
+        byte_at(names, 3),
+        byte_at(names, 4),
+        byte_at(names, 5),
+    ]
+}
+
+// The relations that a frame names, of which the first six count.
+// Refused: always six; no relations.
+pub fn items_of(names: &[u8]) -> Items
+    ensures { λ r. ⌜ r ≡ itemsOf (now (names .entry)) ⌝ }
+{
+    Items {
+        relations: six_of(names),
+        number: at_most_six(names.len()),
+    }
+}
+
+// The relation of an item, 0 past the last.
+// Refused: that of the first item; that of the second item.
+pub fn relation(items: Items, i: u8) -> u8
+    ensures { λ r. ⌜ r ≡ getD (relationsIn items) i 0 ⌝ }
+{
+    if items.number <= i {
+        return 0;
+    }
+    let relations = items.relations;
+    byte_at(&relations, i as usize)
+}
+
+// The number of columns of an item, 0 past the last.
+// Refused: that of the first item; the row bound.
+pub fn width(items: Items, shape: &[u8], i: u8) -> u8
+    ensures { λ w. ⌜ w ≡ getD (widthsIn (now (shape .entry)) (relationsIn items)) i 0 ⌝ }
+{
+    if items.number <= i {
+        return 0;
+    }
+    arrays::width_of(shape, relation(items, i))
+}
