@@ -15,6 +15,7 @@ use Rattle.language.specs.Reading.{Read, done, refuse, _>>=_, byteIf, either}
 use Rattle.language.proofs.Readers.{then-ok}
 use Rattle.language.specs.Frames.{repeated, pairField, exactlyKey}
 use Rattle.language.specs.Written.{maskOf}
+use Rattle.catalog.proofs.TableLaws.{bit-first, bits-after}
 use Rattle.checker.specs.Faults.{first, under}
 use Rattle.checker.specs.FixedFaults.{parentCount, columnPairing, pairing}
 use Rattle.checker.proofs.FieldLaws.{first-none, first-some}
@@ -58,14 +59,6 @@ module _ (c p : ℕ) (frame : List ℕ) where
       ∙ ap₂ tick (ap (λ k. eqb k i) (pair-parent at q mid a)) (parents-read i n (at + 2) qs end more)
 
 -- ---- the parent's key
-
-pub bit-first : (k : Bool) (ks : List Bool) → maskOf (k ∷ ks) % 2 ≡ cond k 1 0
-bit-first true ks = omega arith
-bit-first false ks = omega arith
-
-pub bits-after : (k : Bool) (ks : List Bool) → maskOf (k ∷ ks) / 2 ≡ maskOf ks
-bits-after true ks = omega arith
-bits-after false ks = omega arith
 
 module _ (frame : List ℕ) (n : ℕ) (ps : List Pair) (counts : (i : ℕ) → countIf (λ q. eqb (q .parent) i) ps ≡ parentCount frame i 4 n) where
   pub pairing-exact : (i : ℕ) (key : List Bool) → cond (exactlyKey i key ps) 0 6 ≡ pairing frame n i (length key) (maskOf key)

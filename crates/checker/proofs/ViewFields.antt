@@ -1,6 +1,6 @@
 -- The fields of a view's frame, from what was read. Assumes nothing.
 use mathlib.Core.Path.{_≡_, refl, sym, ap, ap₂, subst, _∙_}
-use mathlib.Core.Bool.{Bool, true, _&&_, and-true, and-assoc}
+use mathlib.Core.Bool.{Bool, true, _&&_}
 use mathlib.Core.List.{List, [], _∷_, _++_, map}
 use Prim.Native.Nat.{ℕ, zero, suc, _+_, _*_, _≤_, _<_}
 use native.Mathlib.Omega.{arith}
@@ -24,10 +24,6 @@ use Rattle.language.specs.Frames.{repeated, field, ending, fromList, placeField
 use Rattle.checker.proofs.FieldLaws.{at-end}
 
 -- ---- lists
-
-pub all-snoc : {A : Type 0} (p : A → Bool) (xs : List A) (x : A) → all p (xs ++ (x ∷ [])) ≡ (all p xs && p x)
-all-snoc p [] x = and-true (p x)
-all-snoc p (y ∷ xs) x = ap (_&&_ (p y)) (all-snoc p xs x) ∙ sym (and-assoc (p y) (all p xs) (p x))
 
 pub drop-as : (frame : List ℕ) (m n : ℕ) → m ≡ n → drop m frame ≡ drop n frame
 drop-as frame m n e = ap (λ k. drop k frame) e

@@ -24,7 +24,7 @@ pub const TOO_MANY: u64 = 16777217;
 
 // The column whose four bytes stand at a place.
 fn domain_at(bytes: &[u8], at: usize) -> Domain
-    requires { ⌜ at ≤ 4294970000 ⌝ }
+    requires { ⌜ at ≤ 1024 ⌝ }
     ensures { λ d. ⌜ columnOf d ≡ columnFrom (now (bytes .entry)) at ⌝ }
 {
     let lo = integer::from_bytes(byte_at(bytes, at), byte_at(bytes, at + 1));
