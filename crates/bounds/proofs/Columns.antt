@@ -95,7 +95,7 @@ module _ (frame : List ℕ) where
 module _ (frame : List ℕ) (rule : Rule) where
   pub columns-any : rule .grouped ≡ false → permittedOf frame rule .columns ≡ anyColumn
   unfolding permittedOf
-  columns-any e = rw e
+  columns-any e = by-test (rule .filter) (λ t. rw (e, t)) (λ t. rw (e, t))
 
   pub columns-grouping : rule .grouped ≡ true → permittedOf frame rule .columns ≡ groupingColumn (placesFrom frame (rule .places) (rule .count))
   unfolding permittedOf
@@ -104,4 +104,4 @@ module _ (frame : List ℕ) (rule : Rule) where
   -- and where 07 may stand
   pub aggregates-are : permittedOf frame rule .aggregates ≡ rule .grouped
   unfolding permittedOf
-  aggregates-are = by-test (rule .grouped) (λ t. rw t) (λ t. rw t)
+  aggregates-are = by-test (rule .grouped) (λ t. rw t) (λ t. by-test (rule .filter) (λ u. rw (t, u)) (λ u. rw (t, u)))

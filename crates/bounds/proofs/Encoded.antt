@@ -9,7 +9,8 @@ use Rattle.language.specs.Prefix.{encodeE, encodeC}
 use Rattle.language.specs.Reading.{readE, readC, InLimitsE, InLimitsC}
 use Rattle.meaning.specs.Bounds.{withinC, allowedE, allowedC}
 use Rattle.language.proofs.PrefixForms.{backE, backC}
-use Rattle.bounds.specs.Walk.{permittedOf, openIn, openRangesIn, rangedE, SizesE, TestsC}
+use Rattle.catalog.specs.Items.{openIn, openRangesIn}
+use Rattle.bounds.specs.Walk.{permittedOf, rangedE, SizesE, TestsC}
 use Rattle.bounds.specs.declared.Rule.{Rule}
 use Rattle.bounds.specs.declared.Sized.{Sized}
 use Rattle.bounds.specs.declared.Tested.{Tested}

@@ -13,7 +13,8 @@ use Rattle.range.specs.declared.Ranged.the-variants.{Within, Beyond}
 use Rattle.meaning.specs.Syntax.{Expr}
 use Rattle.meaning.specs.Bounds.{allowedE}
 use Rattle.catalog.specs.Arrays.{rangesFrom}
-use Rattle.bounds.specs.Walk.{placesFrom, permittedOf, columnIn, openRangesIn, rangedE}
+use Rattle.catalog.specs.Items.{openRangesIn}
+use Rattle.bounds.specs.Walk.{placesFrom, permittedOf, columnIn, rangedE}
 
 abbrev shape : List ℕ
 shape = 1 ∷ 2 ∷ 4 ∷ 1 ∷ []
@@ -59,7 +60,7 @@ inside-counts = refl
 
 abbrev permitted : Bool → Expr → Bool
 permitted grouped e =
-    allowedE (permittedOf (0 ∷ 1 ∷ []) (record { bound = 4; grouped = grouped; places = 0; count = 1 })) e
+    allowedE (permittedOf (0 ∷ 1 ∷ []) (record { bound = 4; grouped = grouped; filter = false; places = 0; count = 1 })) e
 
 grouping-column : permitted true (column 1) ≡ true
 unfolding permittedOf placesFrom

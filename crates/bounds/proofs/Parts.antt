@@ -13,7 +13,8 @@ use Rattle.range.specs.declared.Ranged.{Ranged}
 use Rattle.range.specs.declared.Ranged.the-variants.{Within, Beyond}
 use Rattle.meaning.specs.Syntax.{Expr, Cond}
 use Rattle.meaning.specs.Bounds.{OpenRanges, range, withinE, withinC}
-use Rattle.bounds.specs.Walk.{columnIn, openRangesIn, rangedE, operatedR, roundedR, hullR, chosenR, aggregatedR, isWithin}
+use Rattle.catalog.specs.Items.{openRangesIn}
+use Rattle.bounds.specs.Walk.{columnIn, rangedE, operatedR, roundedR, hullR, chosenR, aggregatedR, isWithin}
 
 -- the range, if it and the parts fit
 abbrev fitting : Bool → Range → Ranged

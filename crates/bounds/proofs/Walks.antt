@@ -20,7 +20,8 @@ use Rattle.language.specs.Reading.{Read, Open, byte, byteIf, step, choose, expr
 use Rattle.meaning.specs.Bounds.{OpenRanges, withinC, allowedE, allowedC}
 use Rattle.language.proofs.Readers.{then-ok}
 use Rattle.language.proofs.PrefixForms.{readE-nil, readC-nil, readE-step, readC-step, readE-operation, readC-comparison, readC-connection}
-use Rattle.bounds.specs.Walk.{permittedOf, insideOf, openIn, openRangesIn, rangedE, operatedR, roundedR, chosenR, aggregatedR, isWithin, sized, tested, columnAt, SizesE, SizesTwo, TestsC}
+use Rattle.catalog.specs.Items.{openIn, openRangesIn}
+use Rattle.bounds.specs.Walk.{permittedOf, insideOf, rangedE, operatedR, roundedR, chosenR, aggregatedR, isWithin, sized, tested, columnAt, SizesE, SizesTwo, TestsC}
 use Rattle.bounds.specs.declared.Rule.{Rule}
 use Rattle.bounds.specs.declared.Sized.{Sized}
 use Rattle.bounds.specs.declared.TwoSized.{TwoSized}

@@ -2,7 +2,7 @@
 -- (refusal 7), and its range, or that a range inside it leaves 32 bits (refusal 9). Assumes nothing: these are definitions.
 use mathlib.Core.Path.{_≡_}
 use mathlib.Core.Bool.{Bool, true, false, _&&_, cond}
-use mathlib.Core.List.{List, [], _∷_, map}
+use mathlib.Core.List.{List, [], _∷_}
 use Prim.Native.Nat.{ℕ, zero, suc, _+_, _≤_}
 use lib.IntN.{ℤ, pos}
 use lib.ListN.{getD, drop}
@@ -12,9 +12,10 @@ use Rattle.range.specs.declared.Range.{Range}
 use Rattle.range.specs.declared.Ranged.{Ranged}
 use Rattle.range.specs.declared.Ranged.the-variants.{Within, Beyond}
 use Rattle.meaning.specs.Syntax.{Expr, Cond, Place}
-use Rattle.language.specs.Reading.{Read, Open, openItems, readE, readC}
-use Rattle.meaning.specs.Bounds.{OpenRanges, range, withinE, withinC, Permitted, inBasic, inGrouped, allowedE, allowedC}
-use Rattle.catalog.specs.Arrays.{widthAt, itemsIn}
+use Rattle.language.specs.Reading.{Read, readE, readC}
+use Rattle.meaning.specs.Bounds.{OpenRanges, range, withinE, withinC, Permitted, inWhere, inBasic, inGrouped, allowedE, allowedC}
+use Rattle.catalog.specs.Arrays.{itemsIn}
+use Rattle.catalog.specs.Items.{openIn, openRangesIn}
 use Rattle.bounds.specs.declared.Rule.{Rule}
 use Rattle.bounds.specs.declared.Sized.{Sized}
 use Rattle.bounds.specs.declared.TwoSized.{TwoSized}
@@ -29,24 +30,13 @@ placesFrom frame at (suc n) = record { item = getD frame at 0; column = getD fra
 
 -- what may stand where the rule is
 unfoldable pub permittedOf : List ℕ → Rule → Permitted
-permittedOf frame rule = cond (rule .grouped) (inGrouped (placesFrom frame (rule .places) (rule .count))) inBasic
+permittedOf frame rule = cond (rule .grouped) (inGrouped (placesFrom frame (rule .places) (rule .count))) (cond (rule .filter) inWhere inBasic)
 
 -- the rule inside 07: any column, and no other 07
 abbrev pub insideOf : Rule → Rule
-insideOf rule = record { bound = rule .bound; grouped = false; places = rule .places; count = rule .count }
+insideOf rule = record { bound = rule .bound; grouped = false; filter = false; places = rule .places; count = rule .count }
 
 -- ---- ranges
-
--- the number of columns of each from item
-abbrev pub widthsIn : List ℕ → List ℕ → List ℕ
-widthsIn shape fs = map (widthAt shape) fs
-
--- what is open over a from list
-abbrev pub openIn : List ℕ → List ℕ → Open
-openIn shape fs = openItems (widthsIn shape fs)
-
-abbrev pub openRangesIn : List ℕ → List ℤ → List ℕ → ℕ → OpenRanges
-openRangesIn shape ends fs R = record { ranges = itemsIn shape ends fs; bound = R }
 
 -- the range of a column of a from item, 0 to 0 where there is none
 unfoldable pub columnIn : List ℕ → List ℤ → List ℕ → ℕ → ℕ → Range

@@ -1,5 +1,7 @@
 // The rule on aggregates and the ranges of expressions, on frame bytes.
 use catalog::arrays;
+use catalog::items::Items;
+use catalog::items::relation;
 use range::Range;
 use range::Ranged;
 use slice::byte_at;
@@ -12,13 +14,15 @@ ghost use Rattle.value.specs.Integer.{bytesZ};
 ghost use Rattle.value.specs.Value.{operationAt, aggregateAt};
 ghost use Rattle.range.specs.Ranges.{ranged, constantOf};
 ghost use Rattle.meaning.specs.Bounds.{groupingColumn};
+ghost use Rattle.catalog.specs.Items.{relationsIn};
 ghost use Rattle.bounds.specs.Walk.{placesFrom, permittedOf, insideOf, columnIn, columnAt, operatedR, roundedR, hullR, chosenR, aggregatedR, isWithin, sized, tested, SizesE, SizesTwo, TestsC};
 
 // Where an expression stands: the row bound, and whether it is in having or select of an aggregate view, whose grouping columns
-// are `count` pairs of bytes (from item, column) at `places` of the frame.
+// are `count` pairs of bytes (from item, column) at `places` of the frame, or in a where condition.
 pub struct Rule {
     pub bound: u32,
     pub grouped: bool,
+    pub filter: bool,
     pub places: usize,
     pub count: u8,
 }
@@ -85,14 +89,13 @@ fn constant(frame: &[u8], at: usize) -> Sized
 }
 
 // The range of a column of a from item.
-fn range_of(items: &[u8], shape: &[u8], ends: &[i32], item: u8, column: u8) -> Ranged
-    ensures { λ r. ⌜ r ≡ ranged (columnIn (now (shape .entry)) (now (ends .entry)) (now (items .entry)) item column) ⌝ }
+fn range_of(items: Items, shape: &[u8], ends: &[i32], item: u8, column: u8) -> Ranged
+    ensures { λ r. ⌜ r ≡ ranged (columnIn (now (shape .entry)) (now (ends .entry)) (relationsIn items) item column) ⌝ }
 {
-    let i = item as usize;
-    if items.len() <= i {
+    if items.number <= item {
         return Ranged::Within(Range { lo: 0, hi: 0 });
     }
-    Ranged::Within(arrays::range_at(shape, ends, byte_at(items, i), column))
+    Ranged::Within(arrays::range_at(shape, ends, relation(items, item), column))
 }
 
 // Whether a column is one of `count` grouping columns, which begin at `places`.
@@ -128,9 +131,9 @@ fn permitted(frame: &[u8], rule: Rule, item: u8, column: u8) -> bool
 }
 
 // The column that two bytes name.
-fn column(frame: &[u8], at: usize, items: &[u8], shape: &[u8], ends: &[i32], rule: Rule) -> Sized
+fn column(frame: &[u8], at: usize, items: Items, shape: &[u8], ends: &[i32], rule: Rule) -> Sized
     requires { ⌜ at ≤ length (now frame) ⌝ }
-    ensures { λ r. ⌜ r ≡ columnAt (now (frame .entry)) at (now (items .entry)) (now (shape .entry)) (now (ends .entry)) rule ⌝ }
+    ensures { λ r. ⌜ r ≡ columnAt (now (frame .entry)) at (relationsIn items) (now (shape .entry)) (now (ends .entry)) rule ⌝ }
 {
     let item = byte_at(frame, at);
     let number = byte_at(frame, at + 1);
@@ -145,6 +148,7 @@ fn inside(rule: Rule) -> Rule
     Rule {
         bound: rule.bound,
         grouped: false,
+        filter: false,
         places: rule.places,
         count: rule.count,
     }
@@ -223,8 +227,8 @@ fn is_within(range: Ranged) -> bool
 }
 
 // Two expressions, one after the other.
-fn two(frame: &[u8], at: usize, items: &[u8], shape: &[u8], ends: &[i32], rule: Rule) -> TwoSized
-    ensures { λ r. ⌜ SizesTwo (now (frame .entry)) at (now (items .entry)) (now (shape .entry)) (now (ends .entry)) rule r ⌝ }
+fn two(frame: &[u8], at: usize, items: Items, shape: &[u8], ends: &[i32], rule: Rule) -> TwoSized
+    ensures { λ r. ⌜ SizesTwo (now (frame .entry)) at (relationsIn items) (now (shape .entry)) (now (ends .entry)) rule r ⌝ }
 {
     let a = expression(frame, at, items, shape, ends, rule);
     let b = expression(frame, a.next, items, shape, ends, rule);
@@ -238,17 +242,17 @@ fn two(frame: &[u8], at: usize, items: &[u8], shape: &[u8], ends: &[i32], rule: 
     }
 }
 
-// `items` is the from list; `shape` and `ends` are what is known of the relations.
+// `items` are the from items; `shape` and `ends` are what is known of the relations.
 // Refused: the operands of a difference swapped; the token for the kind of an aggregate.
 pub fn expression(
     frame: &[u8],
     at: usize,
-    items: &[u8],
+    items: Items,
     shape: &[u8],
     ends: &[i32],
     rule: Rule,
 ) -> Sized
-    ensures { λ r. ⌜ SizesE (now (frame .entry)) at (now (items .entry)) (now (shape .entry)) (now (ends .entry)) rule r ⌝ }
+    ensures { λ r. ⌜ SizesE (now (frame .entry)) at (relationsIn items) (now (shape .entry)) (now (ends .entry)) rule r ⌝ }
 {
     if frame.len() <= at {
         return sizing(at, false, Ranged::Beyond);
@@ -285,12 +289,12 @@ pub fn expression(
 pub fn condition(
     frame: &[u8],
     at: usize,
-    items: &[u8],
+    items: Items,
     shape: &[u8],
     ends: &[i32],
     rule: Rule,
 ) -> Tested
-    ensures { λ r. ⌜ TestsC (now (frame .entry)) at (now (items .entry)) (now (shape .entry)) (now (ends .entry)) rule r ⌝ }
+    ensures { λ r. ⌜ TestsC (now (frame .entry)) at (relationsIn items) (now (shape .entry)) (now (ends .entry)) rule r ⌝ }
 {
     if frame.len() <= at {
         return testing(at, false, false);

@@ -1,9 +1,11 @@
 // The from items that are open where an expression stands: the relation of each.
 use crate::arrays;
+use crate::frames;
 use slice::byte_at;
 ghost use mathlib.Core.Path.{_≡_};
 ghost use Prim.Native.Nat.{min};
-ghost use lib.ListN.{length, getD};
+ghost use lib.ListN.{getD};
+ghost use Rattle.catalog.specs.Frames.{fromsIn};
 ghost use Rattle.catalog.specs.Items.{bytesAt, relationsIn, itemsOf, widthsIn};
 
 // Of the six places the first `number` count.
@@ -42,6 +44,15 @@ pub fn items_of(names: &[u8]) -> Items
         relations: six_of(names),
         number: at_most_six(names.len()),
     }
+}
+
+// The from items of a basic or an aggregate view's frame.
+// Refused: the bytes of the frame; the relations that any view names.
+pub fn from_items(frame: &[u8]) -> Items
+    ensures { λ r. ⌜ r ≡ itemsOf (fromsIn (now (frame .entry))) ⌝ }
+{
+    let list = frames::from_list(frame);
+    items_of(list)
 }
 
 // The relation of an item, 0 past the last.

@@ -14,6 +14,7 @@ use lib.IntN.{ℤ}
 use lib.ListN.{length, getD, drop, take}
 use borrow.Author.Tests.{leb-true, leb-false}
 use Rattle.value.proofs.Decides.{by-test, and-parts}
+use Rattle.value.proofs.Places.{from-byte}
 use Rattle.meaning.specs.Syntax.{Expr}
 use Rattle.language.specs.Reading.{Read, Reader, done, andThen, _>>=_, byteIf, place, openItems, readE, readC}
 use Rattle.meaning.proofs.Elements.{all-given, map-same}
@@ -23,11 +24,14 @@ use Rattle.prefix.specs.declared.Skip.the-variants.{Next, Refused}
 use Rattle.prefix.proofs.Ends.{Ends, Field, ends-done, ends-more, ends-bind, field-if, field-bind, fieldE, fieldC}
 use Rattle.prefix.proofs.Skips.{Landed, lands, field-lands, then-more, then-stop, next-is, level-done, level-bind, level-at}
 use Rattle.catalog.specs.Arrays.{widthAt}
+use Rattle.catalog.specs.Frames.{fromsIn}
+use Rattle.catalog.specs.Items.{bytesAt}
+use Rattle.catalog.proofs.ItemLaws.{bytes-length}
 use Rattle.language.specs.Draft.{Draft, width}
 use Rattle.language.specs.Frames.{repeated, ending, placeField}
 use Rattle.checker.specs.Faults.{faultOf, faultAt, first, under, within}
 use Rattle.checker.specs.Catalogued.{Catalogued}
-use Rattle.checker.specs.ViewFaults.{fromsUnder, selectEnd, conditionSelect, whereGroups, bytesAt}
+use Rattle.checker.specs.ViewFaults.{fromsUnder, selectEnd, conditionSelect, whereGroups}
 use Rattle.checker.proofs.FieldLaws.{first-none, first-some, byte-then, byte-wrong, byte-missing, end-any}
 use Rattle.checker.proofs.FixedLaws.{width-known}
 
@@ -42,6 +46,9 @@ first-assoc (suc a) b c =
 first-zero : (a b : ℕ) → first a b ≡ 0 → a ≡ 0
 first-zero zero b h = refl
 first-zero (suc a) b h = sym (first-some (suc a) b (λ k. omega arith)) ∙ h
+
+second-zero : (a b : ℕ) → first a b ≡ 0 → b ≡ 0
+second-zero a b h = sym (ap (λ x. first x b) (first-zero a b h) ∙ first-none b) ∙ h
 
 -- ---- readers with the same faults, what they read aside
 
@@ -88,6 +95,18 @@ module _ (frame : List ℕ) (n : ℕ) (p : ℕ → Bool) (z : n ≡ 0 → ⊥) w
       byte-then frame at n p (λ x. repeated k (byteIf n p) >>= λ xs. done (x ∷ xs)) z
       ∙ ap (first (faultAt frame at (byteIf n p))) (alike-at frame (at + 1) (alike-done (repeated k (byteIf n p)) (λ xs. getD frame at 0 ∷ xs)))
 
+  -- without a fault they are all there
+  pub times-bytes : (k at : ℕ) → faultAt frame at (repeated k (byteIf n p)) ≡ 0 → bytesAt frame at k ≡ take k (drop at frame)
+  unfolding bytesAt
+  times-bytes zero at h = refl
+  times-bytes (suc k) at h =
+      let e = sym (times-first at k) ∙ h in
+      let a = first-zero _ _ e in
+      let l : at < length frame = by-test (leb (length frame) at)
+      (λ t. let q = byte-missing frame at n p (leb-true _ _ t) in absurd (omega arith))
+      (λ t. leb-false _ _ t) in
+      rw (from-byte frame at l, times-bytes k (at + 1) (second-zero _ _ e))
+
   pub times-then : {B : Type 0} (k at : ℕ) (f : List ℕ → Reader B)
       → faultAt frame at (repeated k (byteIf n p) >>= f) ≡ first (faultAt frame at (repeated k (byteIf n p))) (faultAt frame (at + k) (f (bytesAt frame at k)))
   unfolding faultAt bytesAt
@@ -124,6 +143,17 @@ module _ (frame : List ℕ) (count : ℕ) where
       (λ l. by-test (within 1 3 (getD frame 1 0))
       (λ t. leb-true _ _ (and-parts (leb 1 (getD frame 1 0)) _ t .1))
       (λ t. let q = byte-wrong frame 1 5 (within 1 3) (leb-false _ _ l) t in absurd (omega arith)))
+
+  -- it is in the frame
+  pub froms-there : faultAt frame 1 (fromsUnder count) ≡ 0 → bytesAt frame 2 (getD frame 1 0) ≡ fromsIn frame
+  unfolding fromsIn
+  froms-there h = times-bytes frame 6 (under count) (λ e. omega arith) (getD frame 1 0) 2 (second-zero _ _ (sym froms-fault ∙ h))
+
+  pub froms-six : faultAt frame 1 (fromsUnder count) ≡ 0 → length (fromsIn frame) ≤ 6
+  froms-six h =
+      let l = bytes-length frame 2 (getD frame 1 0) in
+      let e = ap length (froms-there h) in
+      omega (arith, froms-few h)
 
   pub froms-then : {B : Type 0} (f : List ℕ → Reader B)
       → faultAt frame 1 (fromsUnder count >>= f) ≡ first (faultAt frame 1 (fromsUnder count)) (faultAt frame (getD frame 1 0 + 2) (f (bytesAt frame 2 (getD frame 1 0))))
@@ -171,12 +201,6 @@ module _ (frame : List ℕ) (count n : ℕ) where
         h .same ∙ rw (k, l)
 
 -- ---- the widths of the from items
-
-pub take-bytes : (f : ℕ → ℕ) (frame : List ℕ) (k n at : ℕ) → k ≤ n → take k (map f (bytesAt frame at n)) ≡ map f (bytesAt frame at k)
-unfolding bytesAt
-take-bytes f frame zero n at h = refl
-take-bytes f frame (suc k) zero at h = absurd (omega arith)
-take-bytes f frame (suc k) (suc n) at h = ap (λ l. f (getD frame at 0) ∷ l) (take-bytes f frame k n (at + 1) (omega arith))
 
 pub widths-are : {d : Draft} {shape : List ℕ} {ends : List ℤ} → Catalogued d shape ends → (fs : List ℕ) → map (width d) fs ≡ map (widthAt shape) fs
 widths-are {d} {shape} c fs = map-same (width d) (widthAt shape) (all-given (width-known c) fs)

@@ -4,21 +4,24 @@
 -- Assumes nothing.
 use mathlib.Core.Path.{_≡_, sym, ap, _∙_}
 use mathlib.Core.List.{List, map}
-use Prim.Native.Nat.{ℕ, _+_, _≤_}
+use Prim.Native.Nat.{ℕ, _+_}
 use native.Mathlib.Omega.{arith}
 use lib.IntN.{ℤ}
-use lib.ListN.{length, getD, take, length-take}
+use lib.ListN.{getD}
 use Rattle.meaning.specs.Syntax.{View}
 use Rattle.language.specs.Reading.{Reader, _>>=_, byteIf, openItems, readE, readC}
-use Rattle.catalog.specs.Arrays.{widthAt}
+use Rattle.catalog.specs.Frames.{fromsIn}
+use Rattle.catalog.specs.Items.{bytesAt, relationsIn, itemsOf, widthsIn}
+use Rattle.catalog.specs.declared.items.Items.{Items}
+use Rattle.catalog.proofs.ItemLaws.{items-back}
 use Rattle.language.specs.Draft.{Draft, Item, relationCount, width}
 use Rattle.language.specs.Frames.{repeated, field, ending, placeField, basicFrame, groupedFrame}
 use Rattle.checker.specs.Faults.{faultAt, first, within}
 use Rattle.checker.specs.Catalogued.{Catalogued}
-use Rattle.checker.specs.ViewFaults.{fromsUnder, selectEnd, conditionSelect, whereGroups, bytesAt, widthsAt, BasicBytes, GroupedBytes}
+use Rattle.checker.specs.ViewFaults.{fromsUnder, selectEnd, conditionSelect, whereGroups, BasicBytes, GroupedBytes}
 use Rattle.checker.proofs.FieldLaws.{byte-then}
 use Rattle.checker.proofs.BodyLaws.{first-where}
-use Rattle.checker.proofs.ViewByteLaws.{Alike, alike-at, alike-bind, alike-end, froms-then, froms-few, take-bytes, widths-are}
+use Rattle.checker.proofs.ViewByteLaws.{Alike, alike-at, alike-bind, alike-end, froms-then, froms-there, froms-six, widths-are}
 
 -- what stands behind the counts, as the definitions read it
 abbrev basicBehind : List ℕ → List ℕ → ℕ → Reader Item
@@ -38,9 +41,10 @@ grouped-alike fs cols g n =
     alike-bind (readC (openItems cols)) (λ w. alike-bind (repeated g (placeField cols)) (λ gs.
     alike-bind (readC (openItems cols)) (λ h. alike-bind (repeated n (readE (openItems cols))) (λ es. alike-end (Item.view (View.grouped fs w gs h es)) es))))
 
--- ---- the whole frame: `cols` are the widths of the from items where there are at most three
+-- ---- the whole frame: `cols` are the widths of the from items where these have no fault
 
-module _ (frame shape : List ℕ) (count : ℕ) {cols : List ℕ} (w : getD frame 1 0 ≤ 3 → cols ≡ widthsAt frame shape (getD frame 1 0)) where
+module _ (frame shape : List ℕ) (count : ℕ) {cols : List ℕ}
+    (w : faultAt frame 1 (fromsUnder count) ≡ 0 → cols ≡ widthsIn shape (bytesAt frame 2 (getD frame 1 0))) where
   pub basic-law : (d : Draft) (ends : List ℤ) → Catalogued d shape ends → count ≡ relationCount d
       → let at = getD frame 1 0 + 2 in faultAt frame 1 (basicFrame d)
       ≡ first (faultAt frame 1 (fromsUnder count))
@@ -55,7 +59,7 @@ module _ (frame shape : List ℕ) (count : ℕ) {cols : List ℕ} (w : getD fram
       byte-then frame at 5 (within 1 8) (basicBehind fs own) (λ z. omega arith)
       ∙ ap (first (faultAt frame at (byteIf 5 (within 1 8))))
       (alike-at frame (at + 1) (basic-alike fs own m)
-      ∙ ap (λ cs. faultAt frame (at + 1) (conditionSelect cs m)) (widths-are c fs ∙ sym (w (froms-few frame (relationCount d) h))))))
+      ∙ ap (λ cs. faultAt frame (at + 1) (conditionSelect cs m)) (widths-are c fs ∙ sym (w (rw e h))))))
 
   pub grouped-law : (d : Draft) (ends : List ℤ) → Catalogued d shape ends → count ≡ relationCount d
       → let at = getD frame 1 0 + 2 in faultAt frame 1 (groupedFrame d)
@@ -75,27 +79,23 @@ module _ (frame shape : List ℕ) (count : ℕ) {cols : List ℕ} (w : getD fram
       (byte-then frame (at + 1) 5 (within 1 8) (groupedBehind fs own g) (λ z. omega arith)
       ∙ ap (first (faultAt frame (at + 1) (byteIf 5 (within 1 8))))
       (alike-at frame (at + 1 + 1) (grouped-alike fs own g m)
-      ∙ ap (λ cs. faultAt frame (at + 1 + 1) (whereGroups cs g m)) (widths-are c fs ∙ sym (w (froms-few frame (relationCount d) h)))))))
+      ∙ ap (λ cs. faultAt frame (at + 1 + 1) (whereGroups cs g m)) (widths-are c fs ∙ sym (w (rw e h)))))))
 
--- ---- the answers: ws are the widths of three from items, of which the code takes k
+-- ---- the answers
 
-module _ (frame shape : List ℕ) (count : ℕ) {ws : List ℕ} {n v k : ℕ} (e : ws ≡ widthsAt frame shape 3) (f : n ≡ getD frame 1 0) (g : v ≡ n)
-    (few : (k ≤ 3) × (n ≤ 3 → k ≡ n)) where
-  lent : getD frame 1 0 ≤ 3 → take k ws ≡ widthsAt frame shape (getD frame 1 0)
-  lent h =
-      let q : k ≡ getD frame 1 0 = few .1 (omega arith) ∙ f in
-      rw (e, q) (take-bytes (widthAt shape) frame (getD frame 1 0) 3 2 h)
+module _ (frame shape : List ℕ) (count : ℕ) {items : Items} {n v : ℕ} (e : items ≡ itemsOf (fromsIn frame)) (f : n ≡ getD frame 1 0) (g : v ≡ n) where
+  abbrev cols : List ℕ
+  cols = widthsIn shape (relationsIn items)
 
-  pub lent-length : k ≡ length (take k ws)
-  unfolding bytesAt
-  lent-length = let q : length ws ≡ 3 = ap length e in omega (arith, length-take k ws)
+  opened : faultAt frame 1 (fromsUnder count) ≡ 0 → cols ≡ widthsIn shape (bytesAt frame 2 (getD frame 1 0))
+  opened h = ap (widthsIn shape) (ap relationsIn e ∙ items-back (fromsIn frame) (froms-six frame count h) ∙ sym (froms-there frame count h))
 
   module _ {a b m t s r : ℕ} (p : a ≡ faultAt frame 1 (fromsUnder count)) where
     pub basic-bytes : m ≡ getD frame (v + 2) 0 → b ≡ faultAt frame (v + 2) (byteIf 5 (within 1 8))
-        → t ≡ faultAt frame (v + 2 + 1) (conditionSelect (take k ws) m) → s ≡ first b t → r ≡ first a s → BasicBytes frame shape count r
-    basic-bytes x y z u w = record { at = λ d ends c q. let l = basic-law frame shape count lent d ends c q in cc }
+        → t ≡ faultAt frame (v + 2 + 1) (conditionSelect cols m) → s ≡ first b t → r ≡ first a s → BasicBytes frame shape count r
+    basic-bytes x y z u w = record { at = λ d ends c q. let l = basic-law frame shape count opened d ends c q in cc }
 
     pub grouped-bytes : {h j y : ℕ} → h ≡ getD frame (v + 2) 0 → m ≡ getD frame (v + 2 + 1) 0 → b ≡ faultAt frame (v + 2) (byteIf 5 (within 0 4))
-        → j ≡ faultAt frame (v + 2 + 1) (byteIf 5 (within 1 8)) → t ≡ faultAt frame (v + 2 + 1 + 1) (whereGroups (take k ws) h m)
+        → j ≡ faultAt frame (v + 2 + 1) (byteIf 5 (within 1 8)) → t ≡ faultAt frame (v + 2 + 1 + 1) (whereGroups cols h m)
         → y ≡ first j t → s ≡ first b y → r ≡ first a s → GroupedBytes frame shape count r
-    grouped-bytes x1 x2 x3 x4 x5 x6 x7 x8 = record { at = λ d ends c q. let l = grouped-law frame shape count lent d ends c q in cc }
+    grouped-bytes x1 x2 x3 x4 x5 x6 x7 x8 = record { at = λ d ends c q. let l = grouped-law frame shape count opened d ends c q in cc }

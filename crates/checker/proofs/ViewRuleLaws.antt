@@ -25,7 +25,8 @@ use Rattle.language.proofs.Readers.{then-ok}
 use Rattle.catalog.specs.Arrays.{widthAt, boundAt, rangesFrom, rangesIn, itemsIn, putRange, putShape, Outside}
 use Rattle.catalog.specs.Frames.{fromsIn, partsAfter}
 use Rattle.catalog.specs.declared.frames.Parts.{Parts}
-use Rattle.bounds.specs.Walk.{placesFrom, permittedOf, widthsIn, openIn, openRangesIn, rangedE, isWithin, SizesE, TestsC}
+use Rattle.catalog.specs.Items.{widthsIn, openIn, openRangesIn}
+use Rattle.bounds.specs.Walk.{placesFrom, permittedOf, rangedE, isWithin, SizesE, TestsC}
 use Rattle.bounds.specs.declared.Rule.{Rule}
 use Rattle.bounds.specs.declared.Sized.{Sized}
 use Rattle.bounds.specs.declared.Tested.{Tested}
@@ -33,7 +34,7 @@ use Rattle.bounds.proofs.Parts.{ranged-is}
 use Rattle.language.specs.Draft.{Draft, Item, added, relationCount, schemasOf, width}
 use Rattle.language.specs.Frames.{repeated, field, fromList, placeField, basicFrame, groupedFrame, wholeFault}
 use Rattle.checker.specs.Catalogued.{Catalogued}
-use Rattle.checker.specs.ViewRules.{factorAt, productOf, Product, putRanged, viewFault, EntryRoom, Selects, RuledAs, Tail, Rules}
+use Rattle.checker.specs.ViewRules.{factorAt, productOf, Product, putRanged, viewFault, plainRule, EntryRoom, Selects, RuledAs, Tail, Rules}
 use Rattle.checker.specs.declared.view_rules.Ruled.{Ruled}
 use Rattle.catalog.proofs.ArrayLaws.{put-length, put-next, put-outside, outside-same, outside-more, outside-ranges}
 use Rattle.checker.proofs.EntryLaws.{view-entered}
@@ -183,26 +184,20 @@ ruled-as : {A A′ W W′ : Bool} {es : List Expr} {I : OpenRanges} {r : ℕ} {e
     → RuledAs A W es I r ends ends′ a → RuledAs A′ W′ es I r ends ends′ a
 ruled-as {es = es} {I = I} {r = r} {ends = ends} {ends′ = ends′} {a = a} p q x = rw (← p, ← q) x
 
-abbrev pub plainRule : ℕ → Rule
-plainRule bound = record { bound = bound; grouped = false; places = 0; count = 0 }
-
 abbrev pub groupedRule : ℕ → ℕ → ℕ → Rule
-groupedRule bound places g = record { bound = bound; grouped = true; places = places; count = g }
+groupedRule bound places g = record { bound = bound; grouped = true; filter = false; places = places; count = g }
 
 module _ (frame : List ℕ) (P : Parts) (items shape : List ℕ) (ends : List ℤ) (r : ℕ) (ends′ : List ℤ) (a : Ruled) (bound : ℕ) (w′ : Tested)
-    (product : Product shape items bound) (rule : Rule) (re : rule ≡ plainRule bound) (t : TestsC frame (P .body) items shape ends rule w′) where
+    (product : Product shape items bound) (t : TestsC frame (P .body) items shape ends (plainRule bound true) w′) where
   abbrev I : ℕ → OpenRanges
   I = openRangesIn shape ends items
 
-  plain-tests : TestsC frame (P .body) items shape ends (plainRule bound) w′
-  plain-tests = subst (λ k. TestsC frame (P .body) items shape ends k w′) re t
-
-  basic-ruled : Tail frame w′ (P .width) items shape ends r rule ends′ a → BasicOf frame P items shape ends r ends′ a
+  basic-ruled : (rule : Rule) → rule ≡ plainRule bound false → Tail frame w′ (P .width) items shape ends r rule ends′ a → BasicOf frame P items shape ends r ends′ a
   unfolding permittedOf
-  basic-ruled s = record {
+  basic-ruled rule re s = record {
     ruled = λ room few narrow w es mid rest readW readS.
         let s′ = subst (λ k. Tail frame w′ (P .width) items shape ends r k ends′ a) re s in
-        let (next, al, wi) = plain-tests .tests w mid readW in
+        let (next, al, wi) = t .tests w mid readW in
         let x = s′ .ruled room narrow es rest (ap (repeated (P .width) (readE (openIn shape items))) next ∙ readS) in
         subst (λ R. RuledAs (allowedC inWhere w && all (allowedE inBasic) es) (withinC (I R) w && all (withinE (I R)) es) es (I R) r ends ends′ a)
         (product .product few)
@@ -218,7 +213,7 @@ module _ (frame : List ℕ) (P : Parts) (items shape : List ℕ) (ends : List �
     ruled = λ room few narrow w gs h es mid mid′ mid″ rest readW readG readH readS.
         let cols = widthsIn shape items in
         let s′ = subst (λ k. Tail frame k (P .width) items shape ends r (groupedRule bound places (P .groups)) ends′ a) he s in
-        let (next, al, wi) = plain-tests .tests w mid readW in
+        let (next, al, wi) = t .tests w mid readW in
         let (gp, gr) = places-read cols frame (P .groups) places gs mid′ (ap (repeated (P .groups) (placeField cols)) (at ∙ next) ∙ readG) in
         let (next′, al′, wi′) = u .tests h mid″ (ap (readC (openItems cols)) (sym gr) ∙ readH) in
         let x = s′ .ruled room narrow es rest (ap (repeated (P .width) (readE (openItems cols))) next′ ∙ readS) in
@@ -248,6 +243,9 @@ no-fault true R W h = by-test (leb R 64)
     within true h = refl
     within false h = absurd (omega arith)
 no-fault false R W h = absurd (omega arith)
+
+six : {fs l : List ℕ} → fs ≡ l → length fs ≤ 3 → length l ≤ 6
+six e h = omega (arith, ap length e)
 
 -- what `Rules` says of one draft and one view
 record Ruling (d : Draft) (r : ℕ) (shape : List ℕ) (ends′ : List ℤ) (a : Ruled) (q : View) : Type 0 where
@@ -282,7 +280,7 @@ module _ (d : Draft) {shape : List ℕ} {ends : List ℤ} (c : Catalogued d shap
           (v ∙ ap₂ (λ k rs. record { bound = k; ranges = rs }) b (sym (x .ranges t)));
     }
 
-    module _ (ends′ : List ℤ) (a : Ruled) (q : View) (frame : List ℕ) (P : Parts) (items : List ℕ) (list : items ≡ fromsIn frame) where
+    module _ (ends′ : List ℤ) (a : Ruled) (q : View) (frame : List ℕ) (P : Parts) (items : List ℕ) (list : length (fromsIn frame) ≤ 6 → items ≡ fromsIn frame) where
       basic-ruling : P ≡ partsOf false frame → BasicOf frame P items shape ends r ends′ a → basicFrame d (drop 1 frame) ≡ Read.ok (Item.view q) []
           → Ruling d r shape ends′ a q
       unfolding viewFault partsAfter
@@ -295,7 +293,7 @@ module _ (d : Draft) {shape : List ℕ} {ends : List ℤ} (c : Catalogued d shap
           let (w, m₃, p₃, q₃) = then-ok (readC (openItems (map (width d) fs)) m₂) _ q₂ in
           let (es, m₄, p₄, q₄) = then-ok (repeated n (readE (openItems (map (width d) fs))) m₃) _ q₃ in
           let same : View.basic fs w es ≡ q = view-read (View.basic fs w es) q m₄ [] q₄ in
-          let B′ = subst (λ k. BasicOf frame (partsOf false frame) k shape ends r ends′ a) (list ∙ sym (F .list))
+          let B′ = subst (λ k. BasicOf frame (partsOf false frame) k shape ends r ends′ a) (list (six (F .list) (F .few)) ∙ sym (F .list))
           (subst (λ (p : Parts). BasicOf frame p items shape ends r ends′ a) pe B) in
           let start : m₂ ≡ drop (n₀ + 3) frame = j ∙ drop-as frame (n₀ + 2 + 1) (n₀ + 3) (omega arith) in
           let readW : readC (openIn shape fs) (drop (n₀ + 3) frame) ≡ Read.ok w m₃ = ap₂ (λ cols. readC (openItems cols)) (sym (widths-are c fs)) (sym start) ∙ p₃ in
@@ -316,7 +314,7 @@ module _ (d : Draft) {shape : List ℕ} {ends : List ℤ} (c : Catalogued d shap
           let T = G .trees in
           let p = partsOf true frame in
           let A = allowedC inWhere (T .w) && (allowedC (inGrouped (T .gs)) (T .h) && all (allowedE (inGrouped (T .gs))) (T .es)) in
-          let B′ = subst (λ k. GroupedOf frame p k shape ends r ends′ a) (list ∙ sym (G .from .list))
+          let B′ = subst (λ k. GroupedOf frame p k shape ends r ends′ a) (list (six (G .from .list) (G .from .few)) ∙ sym (G .from .list))
           (subst (λ (p : Parts). GroupedOf frame p items shape ends r ends′ a) pe B) in
           let W = sym (widths-are c fs) in
           subst (Ruling d r shape ends′ a) (T .same)
@@ -332,11 +330,12 @@ module _ (d : Draft) {shape : List ℕ} {ends : List ℤ} (c : Catalogued d shap
 -- ---- the whole frame
 
 -- from the from list, the other parts, the row bound and the answer for the where
-module _ (frame : List ℕ) (r : ℕ) (shape : List ℕ) (ends ends′ : List ℤ) (a : Ruled) (items : List ℕ) (P : Parts) (bound : ℕ) (w : Tested) (rule : Rule)
-    (list : items ≡ fromsIn frame) (product : Product shape items bound) (re : rule ≡ plainRule bound) (t : TestsC frame (P .body) items shape ends rule w) where
-  pub basic-rules : P ≡ partsOf false frame → Tail frame w (P .width) items shape ends r rule ends′ a → Rules basicFrame frame r shape ends ends′ a
-  basic-rules pe s =
-      let B = basic-ruled frame P items shape ends r ends′ a bound w product rule re t s in
+module _ (frame : List ℕ) (r : ℕ) (shape : List ℕ) (ends ends′ : List ℤ) (a : Ruled) (items : List ℕ) (P : Parts) (bound : ℕ) (w : Tested)
+    (list : length (fromsIn frame) ≤ 6 → items ≡ fromsIn frame) (product : Product shape items bound)
+    (t : TestsC frame (P .body) items shape ends (plainRule bound true) w) where
+  pub basic-rules : P ≡ partsOf false frame → (rule : Rule) → rule ≡ plainRule bound false → Tail frame w (P .width) items shape ends r rule ends′ a → Rules basicFrame frame r shape ends ends′ a
+  basic-rules pe rule re s =
+      let B = basic-ruled frame P items shape ends r ends′ a bound w product t rule re s in
       record {
         fault = λ d q c e l h. basic-ruling d c r e l ends′ a q frame P items list pe B h .fault;
         entered = λ d q c e l h. basic-ruling d c r e l ends′ a q frame P items list pe B h .entered;
@@ -347,7 +346,7 @@ module _ (frame : List ℕ) (r : ℕ) (shape : List ℕ) (ends ends′ : List �
       → TestsC frame (places + 2 * P .groups) items shape ends (groupedRule bound places (P .groups)) h′
       → Tail frame head (P .width) items shape ends r (groupedRule bound places (P .groups)) ends′ a → Rules groupedFrame frame r shape ends ends′ a
   grouped-rules pe places h′ head he at u s =
-      let B = grouped-ruled frame P items shape ends r ends′ a bound w product rule re t places h′ head he at u s in
+      let B = grouped-ruled frame P items shape ends r ends′ a bound w product t places h′ head he at u s in
       record {
         fault = λ d q c e l h. grouped-ruling d c r e l ends′ a q frame P items list pe B (grouped-read d frame q h) .fault;
         entered = λ d q c e l h. grouped-ruling d c r e l ends′ a q frame P items list pe B (grouped-read d frame q h) .entered;

@@ -1,12 +1,10 @@
 -- What the pass over the bytes of a basic or an aggregate view finds. Assumes nothing: these are definitions.
 use mathlib.Core.Path.{_≡_}
-use mathlib.Core.List.{List, [], _∷_, map}
-use Prim.Native.Nat.{ℕ, zero, suc, _+_}
+use mathlib.Core.List.{List}
+use Prim.Native.Nat.{ℕ}
 use lib.IntN.{ℤ}
-use lib.ListN.{getD}
 use Rattle.meaning.specs.Syntax.{Expr}
 use Rattle.language.specs.Reading.{Reader, _>>=_, byteIf, openItems, readE, readC}
-use Rattle.catalog.specs.Arrays.{widthAt}
 use Rattle.language.specs.Draft.{Draft, relationCount}
 use Rattle.language.specs.Frames.{repeated, field, ending, placeField, basicFrame, groupedFrame}
 use Rattle.checker.specs.Faults.{faultAt, under}
@@ -29,17 +27,6 @@ conditionSelect cols m = readC (openItems cols) >>= λ w. selectEnd cols m
 -- an aggregate view's where, its g grouping columns, and the rest
 unfoldable pub whereGroups : List ℕ → ℕ → ℕ → Reader (List Expr)
 whereGroups cols g m = readC (openItems cols) >>= λ w. repeated g (placeField cols) >>= λ gs. conditionSelect cols m
-
--- ---- the from items
-
--- n bytes from a place on, 0 past the end
-unfoldable pub bytesAt : List ℕ → ℕ → ℕ → List ℕ
-bytesAt frame at zero = []
-bytesAt frame at (suc n) = getD frame at 0 ∷ bytesAt frame (at + 1) n
-
--- the number of columns of each of the first n from items
-abbrev pub widthsAt : List ℕ → List ℕ → ℕ → List ℕ
-widthsAt frame shape n = map (widthAt shape) (bytesAt frame 2 n)
 
 -- ---- the answers: the first fault of a frame's bytes, whatever the relations before it are
 

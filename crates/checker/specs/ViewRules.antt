@@ -1,7 +1,7 @@
 -- What the rules 7, 8 and 9 on the whole frame of a basic or an aggregate view answer, and the ranges that they store. Assumes nothing:
 -- these are definitions.
 use mathlib.Core.Path.{_≡_}
-use mathlib.Core.Bool.{Bool, true, _&&_, cond}
+use mathlib.Core.Bool.{Bool, true, false, _&&_, cond}
 use mathlib.Core.List.{List, [], foldr, map}
 use Prim.Native.Nat.{ℕ, _*_, _%_, _<_, _≤_}
 use lib.Dec.{ltb, leb}
@@ -15,7 +15,8 @@ use Rattle.meaning.specs.Syntax.{Expr, View}
 use Rattle.language.specs.Reading.{Read, Reader, readE}
 use Rattle.meaning.specs.Bounds.{OpenRanges, range, withinE, allowedE}
 use Rattle.catalog.specs.Arrays.{widthAt, boundAt, rangesFrom, putRange, putShape, Outside}
-use Rattle.bounds.specs.Walk.{permittedOf, openIn, openRangesIn}
+use Rattle.catalog.specs.Items.{openIn, openRangesIn}
+use Rattle.bounds.specs.Walk.{permittedOf}
 use Rattle.bounds.specs.declared.Rule.{Rule}
 use Rattle.bounds.specs.declared.Tested.{Tested}
 use Rattle.language.specs.Draft.{Draft, Item, added, relationCount}
@@ -44,6 +45,10 @@ putRanged ends r c Beyond = ends
 -- the number of the first rule that is broken
 unfoldable pub viewFault : Bool → ℕ → Bool → ℕ
 viewFault allowed bound within = cond allowed (cond (leb bound 64) (cond within 0 9) 8) 7
+
+-- the rule of a basic view's select, and of the where of any view
+abbrev pub plainRule : ℕ → Bool → Rule
+plainRule bound filter = record { bound = bound; grouped = false; filter = filter; places = 0; count = 0 }
 
 -- what the arrays need so that relation r can be stored while those of the from list are read
 pub record EntryRoom (shape : List ℕ) (ends : List ℤ) (items : List ℕ) (r : ℕ) : Type 0 where

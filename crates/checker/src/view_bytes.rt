@@ -1,28 +1,22 @@
 // The pass over the bytes of a basic or an aggregate view: the first fault of its parts in their order, 0 for none.
 use crate::fields;
-use catalog::arrays;
+use catalog::items::Items;
+use catalog::items::from_items;
 use prefix::Skip;
 ghost use mathlib.Core.Path.{_≡_};
 ghost use Prim.Native.Nat.{_≤_};
-ghost use lib.ListN.{length, getD};
-ghost use Rattle.language.specs.Reading.{byteIf, openItems, readE};
+ghost use lib.ListN.{length};
+ghost use Rattle.language.specs.Reading.{byteIf, readE};
 ghost use Rattle.prefix.specs.Skipped.{skipped};
-ghost use Rattle.catalog.specs.Arrays.{widthAt};
+ghost use Rattle.catalog.specs.Items.{relationsIn, widthsIn, openIn};
 ghost use Rattle.language.specs.Frames.{repeated, placeField};
 ghost use Rattle.checker.specs.Faults.{faultAt, under};
-ghost use Rattle.checker.specs.ViewFaults.{fromsUnder, selectEnd, conditionSelect, whereGroups, widthsAt, BasicBytes, GroupedBytes};
+ghost use Rattle.checker.specs.ViewFaults.{fromsUnder, selectEnd, conditionSelect, whereGroups, BasicBytes, GroupedBytes};
 
 fn wide(x: u8) -> usize
     ensures { λ r. ⌜ r ≡ x ⌝ }
 {
     x as usize
-}
-
-// The number of from items, at most 3: more are refused before it counts.
-fn items(n: u8) -> usize
-    ensures { λ r. ⌜ (r ≤ 3) × (n ≤ 3 → r ≡ n) ⌝ }
-{
-    if n < 3 { wide(n) } else { 3 }
 }
 
 // The n relations of a from list, each below `count`.
@@ -49,33 +43,15 @@ fn from_list(frame: &[u8], count: u8) -> u8
     )
 }
 
-// The number of columns of the relation at a place.
-fn width(frame: &[u8], shape: &[u8], at: usize) -> u8
-    ensures { λ r. ⌜ r ≡ widthAt (now (shape .entry)) (getD (now (frame .entry)) at 0) ⌝ }
-{
-    arrays::width_of(shape, slice::byte_at(frame, at))
-}
-
-// The number of columns of each from item; what stands behind the last from item does not count.
-fn widths(frame: &[u8], shape: &[u8]) -> [u8; 3]
-    ensures { λ r. ⌜ r ≡ widthsAt (now (frame .entry)) (now (shape .entry)) 3 ⌝ }
-{
-    [
-        width(frame, shape, 2),
-        width(frame, shape, 3),
-        width(frame, shape, 4),
-    ]
-}
-
 // Where n expressions end.
-fn expressions(frame: &[u8], at: usize, cols: &[u8], n: u8) -> Skip
+fn expressions(frame: &[u8], at: usize, items: Items, shape: &[u8], n: u8) -> Skip
     requires { ⌜ at ≤ length (now frame) ⌝ }
-    ensures { λ r. ⌜ r ≡ skipped (now (frame .entry)) at (repeated n (readE (openItems (now (cols .entry))))) ⌝ }
+    ensures { λ r. ⌜ r ≡ skipped (now (frame .entry)) at (repeated n (readE (openIn (now (shape .entry)) (relationsIn items)))) ⌝ }
 {
     let mut next = at;
     let mut left = n;
     while 0 < left {
-        match prefix::expression(frame, next, cols) {
+        match prefix::expression(frame, next, items, shape) {
             Skip::Next(end) => next = end,
             Skip::Refused(number) => return Skip::Refused(number),
         }
@@ -85,14 +61,14 @@ fn expressions(frame: &[u8], at: usize, cols: &[u8], n: u8) -> Skip
 }
 
 // Where n grouping columns end.
-fn places(frame: &[u8], at: usize, cols: &[u8], n: u8) -> Skip
+fn places(frame: &[u8], at: usize, items: Items, shape: &[u8], n: u8) -> Skip
     requires { ⌜ at ≤ length (now frame) ⌝ }
-    ensures { λ r. ⌜ r ≡ skipped (now (frame .entry)) at (repeated n (placeField (now (cols .entry)))) ⌝ }
+    ensures { λ r. ⌜ r ≡ skipped (now (frame .entry)) at (repeated n (placeField (widthsIn (now (shape .entry)) (relationsIn items)))) ⌝ }
 {
     let mut next = at;
     let mut left = n;
     while 0 < left {
-        match prefix::place(frame, next, cols) {
+        match prefix::place(frame, next, items, shape) {
             Skip::Next(end) => next = end,
             Skip::Refused(number) => return Skip::Refused(number),
         }
@@ -102,33 +78,33 @@ fn places(frame: &[u8], at: usize, cols: &[u8], n: u8) -> Skip
 }
 
 // m select expressions, and nothing behind them.
-fn select_end(frame: &[u8], at: usize, cols: &[u8], m: u8) -> u8
+fn select_end(frame: &[u8], at: usize, items: Items, shape: &[u8], m: u8) -> u8
     requires { ⌜ at ≤ length (now frame) ⌝ }
-    ensures { λ r. ⌜ r ≡ faultAt (now (frame .entry)) at (selectEnd (now (cols .entry)) m) ⌝ }
+    ensures { λ r. ⌜ r ≡ faultAt (now (frame .entry)) at (selectEnd (widthsIn (now (shape .entry)) (relationsIn items)) m) ⌝ }
 {
-    match expressions(frame, at, cols, m) {
+    match expressions(frame, at, items, shape, m) {
         Skip::Next(next) => fields::ends_at(frame, next),
         Skip::Refused(number) => number,
     }
 }
 
 // A condition, and then the select expressions.
-fn condition_select(frame: &[u8], at: usize, cols: &[u8], m: u8) -> u8
-    ensures { λ r. ⌜ r ≡ faultAt (now (frame .entry)) at (conditionSelect (now (cols .entry)) m) ⌝ }
+fn condition_select(frame: &[u8], at: usize, items: Items, shape: &[u8], m: u8) -> u8
+    ensures { λ r. ⌜ r ≡ faultAt (now (frame .entry)) at (conditionSelect (widthsIn (now (shape .entry)) (relationsIn items)) m) ⌝ }
 {
-    match prefix::condition(frame, at, cols) {
-        Skip::Next(next) => select_end(frame, next, cols, m),
+    match prefix::condition(frame, at, items, shape) {
+        Skip::Next(next) => select_end(frame, next, items, shape, m),
         Skip::Refused(number) => number,
     }
 }
 
 // A where condition, g grouping columns, and then having and the select expressions.
-fn where_groups(frame: &[u8], at: usize, cols: &[u8], g: u8, m: u8) -> u8
-    ensures { λ r. ⌜ r ≡ faultAt (now (frame .entry)) at (whereGroups (now (cols .entry)) g m) ⌝ }
+fn where_groups(frame: &[u8], at: usize, items: Items, shape: &[u8], g: u8, m: u8) -> u8
+    ensures { λ r. ⌜ r ≡ faultAt (now (frame .entry)) at (whereGroups (widthsIn (now (shape .entry)) (relationsIn items)) g m) ⌝ }
 {
-    match prefix::condition(frame, at, cols) {
-        Skip::Next(next) => match places(frame, next, cols, g) {
-            Skip::Next(having) => condition_select(frame, having, cols, m),
+    match prefix::condition(frame, at, items, shape) {
+        Skip::Next(next) => match places(frame, next, items, shape, g) {
+            Skip::Next(having) => condition_select(frame, having, items, shape, m),
             Skip::Refused(number) => number,
         },
         Skip::Refused(number) => number,
@@ -143,9 +119,8 @@ pub fn basic_bytes(frame: &[u8], shape: &[u8], count: u8) -> u8
     let n = slice::byte_at(frame, 1);
     let at = wide(n) + 2;
     let m = slice::byte_at(frame, at);
-    let cols = widths(frame, shape);
-    let k = items(n);
-    let behind = condition_select(frame, at + 1, &cols[..k], m);
+    let items = from_items(frame);
+    let behind = condition_select(frame, at + 1, items, shape, m);
     let counts = fields::first_of(fields::between(frame, at, 5, 1, 8), behind);
     fields::first_of(from_list(frame, count), counts)
 }
@@ -159,9 +134,8 @@ pub fn grouped_bytes(frame: &[u8], shape: &[u8], count: u8) -> u8
     let at = wide(n) + 2;
     let g = slice::byte_at(frame, at);
     let m = slice::byte_at(frame, at + 1);
-    let cols = widths(frame, shape);
-    let k = items(n);
-    let behind = where_groups(frame, at + 1 + 1, &cols[..k], g, m);
+    let items = from_items(frame);
+    let behind = where_groups(frame, at + 1 + 1, items, shape, g, m);
     let select = fields::first_of(fields::between(frame, at + 1, 5, 1, 8), behind);
     let counts = fields::first_of(fields::between(frame, at, 5, 0, 4), select);
     fields::first_of(from_list(frame, count), counts)

@@ -4,14 +4,18 @@ use bounds::Rule;
 use bounds::Tested;
 use catalog::arrays;
 use catalog::frames;
+use catalog::items::Items;
+use catalog::items::from_items;
+use catalog::items::relation;
 use range::Ranged;
 ghost use mathlib.Core.Path.{_≡_};
-ghost use mathlib.Core.Bool.{false, _&&_};
+ghost use mathlib.Core.Bool.{true, _&&_};
 ghost use Prim.Native.Nat.{_≤_};
 ghost use lib.ListN.{length, drop};
-ghost use Rattle.bounds.specs.Walk.{isWithin};
+ghost use Rattle.catalog.specs.Items.{relationsIn};
+ghost use Rattle.bounds.specs.Walk.{isWithin, TestsC};
 ghost use Rattle.language.specs.Frames.{basicFrame, groupedFrame};
-ghost use Rattle.checker.specs.ViewRules.{putRanged, factorAt, viewFault, Product, Selects, Tail, Rules};
+ghost use Rattle.checker.specs.ViewRules.{putRanged, factorAt, viewFault, plainRule, Product, Selects, Tail, Rules};
 
 // The fault of a view's frame that its bytes leave open, 0 for none; its row bound and its number of columns.
 pub struct Ruled {
@@ -27,18 +31,18 @@ struct Selected {
 }
 
 // The row bound of from item i, 1 past the last.
-fn factor(items: &[u8], shape: &[u8], i: usize) -> u8
-    ensures { λ f. ⌜ f ≡ factorAt (now (shape .entry)) (now (items .entry)) i ⌝ }
+fn factor(items: Items, shape: &[u8], i: u8) -> u8
+    ensures { λ f. ⌜ f ≡ factorAt (now (shape .entry)) (relationsIn items) i ⌝ }
 {
-    if i < items.len() {
-        return arrays::bound_of(shape, items[i]);
+    if i < items.number {
+        return arrays::bound_of(shape, relation(items, i));
     }
     1
 }
 
 // The product of the row bounds of up to 3 from items.
-fn product(items: &[u8], shape: &[u8]) -> u32
-    ensures { λ p. ⌜ Product (now (shape .entry)) (now (items .entry)) p ⌝ }
+fn product(items: Items, shape: &[u8]) -> u32
+    ensures { λ p. ⌜ Product (now (shape .entry)) (relationsIn items) p ⌝ }
 {
     let a = factor(items, shape, 0) as u32;
     let b = factor(items, shape, 1) as u32;
@@ -64,13 +68,13 @@ fn selects(
     frame: &[u8],
     start: usize,
     count: u8,
-    items: &[u8],
+    items: Items,
     shape: &[u8],
     ends: &mut [i32],
     r: u8,
     rule: Rule,
 ) -> Selected
-    ensures { λ s. ⌜ Selects (now (frame .entry)) start count (now (items .entry)) (now (shape .entry)) (now (ends .entry)) r rule (now (ends .exit)) (s .allowed) (s .within) ⌝ }
+    ensures { λ s. ⌜ Selects (now (frame .entry)) start count (relationsIn items) (now (shape .entry)) (now (ends .entry)) r rule (now (ends .exit)) (s .allowed) (s .within) ⌝ }
 {
     let mut at = start;
     let mut allowed = true;
@@ -112,13 +116,13 @@ fn tail(
     frame: &[u8],
     head: Tested,
     count: u8,
-    items: &[u8],
+    items: Items,
     shape: &[u8],
     ends: &mut [i32],
     r: u8,
     rule: Rule,
 ) -> Ruled
-    ensures { λ a. ⌜ Tail (now (frame .entry)) head count (now (items .entry)) (now (shape .entry)) (now (ends .entry)) r rule (now (ends .exit)) a ⌝ }
+    ensures { λ a. ⌜ Tail (now (frame .entry)) head count (relationsIn items) (now (shape .entry)) (now (ends .entry)) r rule (now (ends .exit)) a ⌝ }
 {
     let s = selects(frame, head.next, count, items, shape, ends, r, rule);
     let allowed = head.allowed & s.allowed;
@@ -130,16 +134,24 @@ fn tail(
     }
 }
 
-// The rule of a basic view, and of the where of any view.
-fn plain(bound: u32) -> Rule
-    ensures { λ u. ⌜ u ≡ record { bound = bound; grouped = false; places = 0; count = 0 } ⌝ }
+// The rule of a basic view's select, and of the where of any view.
+fn plain(bound: u32, filter: bool) -> Rule
+    ensures { λ u. ⌜ u ≡ plainRule bound filter ⌝ }
 {
     Rule {
         bound: bound,
         grouped: false,
+        filter: filter,
         places: 0,
         count: 0,
     }
+}
+
+// The where of any view.
+fn filtered(frame: &[u8], at: usize, items: Items, shape: &[u8], ends: &[i32], bound: u32) -> Tested
+    ensures { λ w. ⌜ TestsC (now (frame .entry)) at (relationsIn items) (now (shape .entry)) (now (ends .entry)) (plainRule bound true) w ⌝ }
+{
+    bounds::condition(frame, at, items, shape, ends, plain(bound, true))
 }
 
 // A place in the frame or at its end.
@@ -165,10 +177,11 @@ fn both(w: Tested, h: Tested) -> Tested
 pub fn basic_rules(frame: &[u8], shape: &[u8], ends: &mut [i32], r: u8) -> Ruled
     ensures { λ a. ⌜ Rules basicFrame (now (frame .entry)) r (now (shape .entry)) (now (ends .entry)) (now (ends .exit)) a ⌝ }
 {
-    let items = frames::from_list(frame);
+    let items = from_items(frame);
     let parts = frames::parts_after(frame, false);
-    let rule = plain(product(items, shape));
-    let w = bounds::condition(frame, parts.body, items, shape, ends, rule);
+    let bound = product(items, shape);
+    let w = filtered(frame, parts.body, items, shape, ends, bound);
+    let rule = plain(bound, false);
     tail(frame, w, parts.width, items, shape, ends, r, rule)
 }
 
@@ -177,14 +190,15 @@ pub fn basic_rules(frame: &[u8], shape: &[u8], ends: &mut [i32], r: u8) -> Ruled
 pub fn grouped_rules(frame: &[u8], shape: &[u8], ends: &mut [i32], r: u8) -> Ruled
     ensures { λ a. ⌜ Rules groupedFrame (now (frame .entry)) r (now (shape .entry)) (now (ends .entry)) (now (ends .exit)) a ⌝ }
 {
-    let items = frames::from_list(frame);
+    let items = from_items(frame);
     let parts = frames::parts_after(frame, true);
     let bound = product(items, shape);
-    let w = bounds::condition(frame, parts.body, items, shape, ends, plain(bound));
+    let w = filtered(frame, parts.body, items, shape, ends, bound);
     let places = inside(frame, w.next);
     let rule = Rule {
         bound: bound,
         grouped: true,
+        filter: false,
         places: places,
         count: parts.groups,
     };

@@ -1,11 +1,14 @@
 // Where each field of a frame ends, and each expression and condition in prefix form; or the number of its refusal.
+use catalog::items::Items;
+use catalog::items::width;
 use slice::byte_at;
 ghost use mathlib.Core.Path.{_≡_};
 ghost use mathlib.Core.Bool.{cond, _&&_};
 ghost use Prim.Native.Nat.{_+_, _*_, _≤_};
 ghost use lib.Dec.{ltb, leb};
 ghost use lib.ListN.{length, getD};
-ghost use Rattle.language.specs.Reading.{byteIf, twoBytes, step as stepR, place as placeR, openItems, readE, readC};
+ghost use Rattle.language.specs.Reading.{byteIf, twoBytes, step as stepR, place as placeR, readE, readC};
+ghost use Rattle.catalog.specs.Items.{relationsIn, widthsIn, openIn};
 ghost use Rattle.prefix.specs.Skipped.{skipped, twice, behindE, behindC};
 
 // Where the next bytes start, or the number of a refusal.
@@ -104,20 +107,20 @@ pub fn step(frame: &[u8], at: usize) -> Skip
 
 // A from item, and one of its columns.
 // Refused: 5 for 6; the columns of the first from item.
-pub fn place(frame: &[u8], at: usize, cols: &[u8]) -> Skip
-    ensures { λ r. ⌜ r ≡ skipped (now (frame .entry)) at (placeR (now (cols .entry))) ⌝ }
+pub fn place(frame: &[u8], at: usize, items: Items, shape: &[u8]) -> Skip
+    ensures { λ r. ⌜ r ≡ skipped (now (frame .entry)) at (placeR (widthsIn (now (shape .entry)) (relationsIn items))) ⌝ }
 {
-    let item = byte_at(frame, at) as usize;
-    match tested(frame, at, 6, item < cols.len()) {
-        Skip::Next(next) => below(frame, next, 6, byte_at(cols, item)),
+    let item = byte_at(frame, at);
+    match tested(frame, at, 6, item < items.number) {
+        Skip::Next(next) => below(frame, next, 6, width(items, shape, item)),
         Skip::Refused(n) => Skip::Refused(n),
     }
 }
 
 // A condition where one is due, else an expression: the token's range says which of the two it begins.
 // Refused: 07 is unknown; 10 is unknown.
-pub fn form(frame: &[u8], at: usize, cols: &[u8], condition: bool) -> Skip
-    ensures { λ r. ⌜ r ≡ cond condition (skipped (now (frame .entry)) at (readC (openItems (now (cols .entry))))) (skipped (now (frame .entry)) at (readE (openItems (now (cols .entry))))) ⌝ }
+pub fn form(frame: &[u8], at: usize, items: Items, shape: &[u8], condition: bool) -> Skip
+    ensures { λ r. ⌜ r ≡ cond condition (skipped (now (frame .entry)) at (readC (openIn (now (shape .entry)) (relationsIn items)))) (skipped (now (frame .entry)) at (readE (openIn (now (shape .entry)) (relationsIn items)))) ⌝ }
 {
     if frame.len() <= at {
         return Skip::Refused(4);
@@ -128,10 +131,10 @@ pub fn form(frame: &[u8], at: usize, cols: &[u8], condition: bool) -> Skip
         0x00..=0x07 => if condition {
             Skip::Refused(4)
         } else {
-            behind_expression(frame, body, cols, token)
+            behind_expression(frame, body, items, shape, token)
         },
         0x10..=0x16 => if condition {
-            behind_condition(frame, body, cols, token)
+            behind_condition(frame, body, items, shape, token)
         } else {
             Skip::Refused(4)
         },
@@ -141,48 +144,48 @@ pub fn form(frame: &[u8], at: usize, cols: &[u8], condition: bool) -> Skip
 
 // An expression.
 // Refused: a condition; the form at 0.
-pub fn expression(frame: &[u8], at: usize, cols: &[u8]) -> Skip
-    ensures { λ r. ⌜ r ≡ skipped (now (frame .entry)) at (readE (openItems (now (cols .entry)))) ⌝ }
+pub fn expression(frame: &[u8], at: usize, items: Items, shape: &[u8]) -> Skip
+    ensures { λ r. ⌜ r ≡ skipped (now (frame .entry)) at (readE (openIn (now (shape .entry)) (relationsIn items))) ⌝ }
 {
-    form(frame, at, cols, false)
+    form(frame, at, items, shape, false)
 }
 
 // A condition.
 // Refused: the form at 0; an expression.
-pub fn condition(frame: &[u8], at: usize, cols: &[u8]) -> Skip
-    ensures { λ r. ⌜ r ≡ skipped (now (frame .entry)) at (readC (openItems (now (cols .entry)))) ⌝ }
+pub fn condition(frame: &[u8], at: usize, items: Items, shape: &[u8]) -> Skip
+    ensures { λ r. ⌜ r ≡ skipped (now (frame .entry)) at (readC (openIn (now (shape .entry)) (relationsIn items))) ⌝ }
 {
-    form(frame, at, cols, true)
+    form(frame, at, items, shape, true)
 }
 
 // Two conditions, or two expressions.
-fn pair(frame: &[u8], at: usize, cols: &[u8], condition: bool) -> Skip
-    ensures { λ r. ⌜ r ≡ cond condition (skipped (now (frame .entry)) at (twice (readC (openItems (now (cols .entry)))))) (skipped (now (frame .entry)) at (twice (readE (openItems (now (cols .entry)))))) ⌝ }
+fn pair(frame: &[u8], at: usize, items: Items, shape: &[u8], condition: bool) -> Skip
+    ensures { λ r. ⌜ r ≡ cond condition (skipped (now (frame .entry)) at (twice (readC (openIn (now (shape .entry)) (relationsIn items))))) (skipped (now (frame .entry)) at (twice (readE (openIn (now (shape .entry)) (relationsIn items))))) ⌝ }
 {
-    match form(frame, at, cols, condition) {
-        Skip::Next(next) => form(frame, next, cols, condition),
+    match form(frame, at, items, shape, condition) {
+        Skip::Next(next) => form(frame, next, items, shape, condition),
         Skip::Refused(n) => Skip::Refused(n),
     }
 }
 
 // What stands behind an expression's token.
-fn behind_expression(frame: &[u8], at: usize, cols: &[u8], token: u8) -> Skip
-    ensures { λ r. ⌜ r ≡ skipped (now (frame .entry)) at (behindE (openItems (now (cols .entry))) token) ⌝ }
+fn behind_expression(frame: &[u8], at: usize, items: Items, shape: &[u8], token: u8) -> Skip
+    ensures { λ r. ⌜ r ≡ skipped (now (frame .entry)) at (behindE (openIn (now (shape .entry)) (relationsIn items)) token) ⌝ }
 {
     match token {
         0x00 => two_bytes(frame, at),
-        0x01 => place(frame, at, cols),
-        0x02..=0x04 => pair(frame, at, cols, false),
+        0x01 => place(frame, at, items, shape),
+        0x02..=0x04 => pair(frame, at, items, shape, false),
         0x05 => match step(frame, at) {
-            Skip::Next(next) => expression(frame, next, cols),
+            Skip::Next(next) => expression(frame, next, items, shape),
             Skip::Refused(n) => Skip::Refused(n),
         },
-        0x06 => match condition(frame, at, cols) {
-            Skip::Next(next) => pair(frame, next, cols, false),
+        0x06 => match condition(frame, at, items, shape) {
+            Skip::Next(next) => pair(frame, next, items, shape, false),
             Skip::Refused(n) => Skip::Refused(n),
         },
         0x07 => match between(frame, at, 5, 0, 3) {
-            Skip::Next(next) => expression(frame, next, cols),
+            Skip::Next(next) => expression(frame, next, items, shape),
             Skip::Refused(n) => Skip::Refused(n),
         },
         _ => Skip::Refused(4),
@@ -190,15 +193,15 @@ fn behind_expression(frame: &[u8], at: usize, cols: &[u8], token: u8) -> Skip
 }
 
 // What stands behind a condition's token.
-fn behind_condition(frame: &[u8], at: usize, cols: &[u8], token: u8) -> Skip
+fn behind_condition(frame: &[u8], at: usize, items: Items, shape: &[u8], token: u8) -> Skip
     requires { ⌜ at ≤ length (now frame) ⌝ }
-    ensures { λ r. ⌜ r ≡ skipped (now (frame .entry)) at (behindC (openItems (now (cols .entry))) token) ⌝ }
+    ensures { λ r. ⌜ r ≡ skipped (now (frame .entry)) at (behindC (openIn (now (shape .entry)) (relationsIn items)) token) ⌝ }
 {
     match token {
         0x10 => Skip::Next(at),
-        0x11..=0x13 => pair(frame, at, cols, false),
-        0x14 => condition(frame, at, cols),
-        0x15..=0x16 => pair(frame, at, cols, true),
+        0x11..=0x13 => pair(frame, at, items, shape, false),
+        0x14 => condition(frame, at, items, shape),
+        0x15..=0x16 => pair(frame, at, items, shape, true),
         _ => Skip::Refused(4),
     }
 }

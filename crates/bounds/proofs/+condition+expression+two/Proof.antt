@@ -32,35 +32,35 @@ use Rattle.bounds.proofs.testing.Reads as testing-reads
 use Rattle.bounds.proofs.+condition+expression+two.{statement}
 use Rattle.bounds.proofs.+condition+expression+two.Tie.{close}
 
-abbrev μ-condition : Measures 4 condition-kinds.ps ℕ
+abbrev μ-condition : Measures 3 condition-kinds.ps ℕ
 μ-condition κs a = 2 * (length (a .0 .now) - a .1 .0)
 
-abbrev μ-expression : Measures 4 expression-kinds.ps ℕ
+abbrev μ-expression : Measures 3 expression-kinds.ps ℕ
 μ-expression κs a = 2 * (length (a .0 .now) - a .1 .0)
 
-abbrev μ-two : Measures 4 two-kinds.ps ℕ
+abbrev μ-two : Measures 3 two-kinds.ps ℕ
 μ-two κs a = 2 * (length (a .0 .now) - a .1 .0) + 1
 
-abbrev condition-at : ℕ → In 4 condition-kinds.ps
-condition-at t = and 4 condition-kinds.ps (is 4 condition-kinds.ps μ-condition t) condition.Pre
+abbrev condition-at : ℕ → In 3 condition-kinds.ps
+condition-at t = and 3 condition-kinds.ps (is 3 condition-kinds.ps μ-condition t) condition.Pre
 
-abbrev condition-below : ℕ → In 4 condition-kinds.ps
+abbrev condition-below : ℕ → In 3 condition-kinds.ps
 condition-below t =
-    and 4 condition-kinds.ps (falls 4 condition-kinds.ps _<_ μ-condition t) condition.Pre
+    and 3 condition-kinds.ps (falls 3 condition-kinds.ps _<_ μ-condition t) condition.Pre
 
-abbrev expression-at : ℕ → In 4 expression-kinds.ps
+abbrev expression-at : ℕ → In 3 expression-kinds.ps
 expression-at t =
-    and 4 expression-kinds.ps (is 4 expression-kinds.ps μ-expression t) expression.Pre
+    and 3 expression-kinds.ps (is 3 expression-kinds.ps μ-expression t) expression.Pre
 
-abbrev expression-below : ℕ → In 4 expression-kinds.ps
+abbrev expression-below : ℕ → In 3 expression-kinds.ps
 expression-below t =
-    and 4 expression-kinds.ps (falls 4 expression-kinds.ps _<_ μ-expression t) expression.Pre
+    and 3 expression-kinds.ps (falls 3 expression-kinds.ps _<_ μ-expression t) expression.Pre
 
-abbrev two-at : ℕ → In 4 two-kinds.ps
-two-at t = and 4 two-kinds.ps (is 4 two-kinds.ps μ-two t) two.Pre
+abbrev two-at : ℕ → In 3 two-kinds.ps
+two-at t = and 3 two-kinds.ps (is 3 two-kinds.ps μ-two t) two.Pre
 
-abbrev two-below : ℕ → In 4 two-kinds.ps
-two-below t = and 4 two-kinds.ps (falls 4 two-kinds.ps _<_ μ-two t) two.Pre
+abbrev two-below : ℕ → In 3 two-kinds.ps
+two-below t = and 3 two-kinds.ps (falls 3 two-kinds.ps _<_ μ-two t) two.Pre
 
 module _ (t : ℕ) where
   abbrev condition-uses : condition-lts.Claims

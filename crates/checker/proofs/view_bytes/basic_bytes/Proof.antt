@@ -1,6 +1,6 @@
 -- `checker::view_bytes::basic_bytes` meets its contract. Assumes nothing.
 use borrow.Author.Needs.{needs}
-use Rattle.checker.proofs.ViewFrameLaws.{lent-length, basic-bytes}
+use Rattle.checker.proofs.ViewFrameLaws.{basic-bytes}
 use Rattle.checker.proofs.view_bytes.basic_bytes.Statement.{statement}
 use Rattle.checker.proofs.view_bytes.basic_bytes.Tie as tie
 
@@ -16,22 +16,11 @@ add-at c = search needs
 byte-at-requires-2 : tie.Need-byte-at-requires-2
 byte-at-requires-2 c κs = search needs
 
-widths-requires : tie.Need-widths-requires
-widths-requires c κs = search needs
-
-items-requires : tie.Need-items-requires
-items-requires c κs = search needs
+from-items-requires : tie.Need-from-items-requires
+from-items-requires c κs = search needs
 
 add-condition-select : tie.Need-add-condition-select
 add-condition-select c = search needs
-
-array-share-prefix-cols : tie.Need-array-share-prefix-cols
-array-share-prefix-cols c = search needs
-
-slice-aggregate-condition-select : tie.Need-slice-aggregate-condition-select
-slice-aggregate-condition-select c = lent-length (c .before .before .before .before .before .before .before .before .args .frame .now) (c .before .before .before .before .before .before .before .before .args .shape .now)
-    (c .before .before .before .before .before .before .before .before .args .count) (c .before .before .widths .ensures) (c .before .before .before .before .before .byte-at .ensures) (c .before .before .before .before .wide .ensures)
-    (c .before .items .ensures)
 
 condition-select-requires : tie.Need-condition-select-requires
 condition-select-requires c κs = search needs
@@ -49,12 +38,12 @@ first-of-requires-2 : tie.Need-first-of-requires-2
 first-of-requires-2 c κs = search needs
 
 returns : tie.Need-returns
-returns c = basic-bytes (c .before .before .before .before .before .before .before .before .before .before .before .before .before .args .frame .now)
-    (c .before .before .before .before .before .before .before .before .before .before .before .before .before .args .shape .now)
-    (c .before .before .before .before .before .before .before .before .before .before .before .before .before .args .count) (c .before .before .before .before .before .before .before .widths .ensures)
-    (c .before .before .before .before .before .before .before .before .before .before .byte-at .ensures) (c .before .before .before .before .before .before .before .before .before .wide .ensures)
-    (c .before .before .before .before .before .before .items .ensures) (c .before .from-list .ensures) (c .before .before .before .before .before .before .before .before .byte-at2 .ensures) (c .before .before .before .between .ensures)
-    (c .before .before .before .before .condition-select .ensures) (c .before .before .first-of .ensures) (c .first-of2 .ensures)
+returns c = basic-bytes (c .before .before .before .before .before .before .before .before .before .before .before .args .frame .now)
+    (c .before .before .before .before .before .before .before .before .before .before .before .args .shape .now) (c .before .before .before .before .before .before .before .before .before .before .before .args .count)
+    (c .before .before .before .before .before .from-items .ensures) (c .before .before .before .before .before .before .before .before .byte-at .ensures) (c .before .before .before .before .before .before .before .wide .ensures)
+    (c .before .from-list .ensures)
+    (c .before .before .before .before .before .before .byte-at2 .ensures) (c .before .before .before .between .ensures) (c .before .before .before .before .condition-select .ensures) (c .before .before .first-of .ensures)
+    (c .first-of2 .ensures)
 
 pub basic-bytes-spec : {M : Type 1} → statement M
 basic-bytes-spec =
@@ -64,11 +53,8 @@ basic-bytes-spec =
     wide-requires
     add-at
     byte-at-requires-2
-    widths-requires
-    items-requires
+    from-items-requires
     add-condition-select
-    array-share-prefix-cols
-    slice-aggregate-condition-select
     condition-select-requires
     between-requires
     first-of-requires

@@ -2,17 +2,18 @@
 use borrow.Author.Needs.{needs}
 use native.Mathlib.Omega.{arith}
 use mathlib.Core.Path.{sym}
-use Rattle.language.specs.Reading.{openItems, readE}
+use Rattle.language.specs.Reading.{readE}
+use Rattle.catalog.specs.Items.{relationsIn, openIn}
 use Rattle.prefix.proofs.Ends.{fieldE}
 use Rattle.checker.proofs.ViewByteLaws.{Repeated, repeat-holds, repeat-again, repeat-stops, repeat-ends}
 use Rattle.checker.proofs.view_bytes.expressions.Statement.{statement}
 use Rattle.checker.proofs.view_bytes.expressions.Tie as tie
 
 abbrev Inv-loop : tie.InvT-loop
-Inv-loop frame at cols n next₀ left₀ next left = Repeated frame (readE (openItems cols)) at n next left
+Inv-loop frame at items shape n next₀ left₀ next left = Repeated frame (readE (openIn shape (relationsIn items))) at n next left
 
 abbrev μ-loop : tie.MeasureT-loop
-μ-loop frame at cols n next₀ left₀ next left = left
+μ-loop frame at items shape n next₀ left₀ next left = left
 
 loop-holds : tie.Need-loop-holds Inv-loop μ-loop
 loop-holds c = repeat-holds _ (fieldE _) _ _ (c .before .before .pre)

@@ -1,6 +1,6 @@
 -- `checker::view_bytes::grouped_bytes` meets its contract. Assumes nothing.
 use borrow.Author.Needs.{needs}
-use Rattle.checker.proofs.ViewFrameLaws.{lent-length, grouped-bytes}
+use Rattle.checker.proofs.ViewFrameLaws.{grouped-bytes}
 use Rattle.checker.proofs.view_bytes.grouped_bytes.Statement.{statement}
 use Rattle.checker.proofs.view_bytes.grouped_bytes.Tie as tie
 
@@ -22,25 +22,14 @@ add-byte-at c = search needs
 byte-at-requires-3 : tie.Need-byte-at-requires-3
 byte-at-requires-3 c κs = search needs
 
-widths-requires : tie.Need-widths-requires
-widths-requires c κs = search needs
-
-items-requires : tie.Need-items-requires
-items-requires c κs = search needs
+from-items-requires : tie.Need-from-items-requires
+from-items-requires c κs = search needs
 
 add-where-groups : tie.Need-add-where-groups
 add-where-groups c = search needs
 
 add-where-groups-2 : tie.Need-add-where-groups-2
 add-where-groups-2 c = search needs
-
-array-share-prefix-cols : tie.Need-array-share-prefix-cols
-array-share-prefix-cols c = search needs
-
-slice-aggregate-where-groups : tie.Need-slice-aggregate-where-groups
-slice-aggregate-where-groups c = lent-length (c .before .before .before .before .before .before .before .before .before .args .frame .now) (c .before .before .before .before .before .before .before .before .before .args .shape .now)
-    (c .before .before .before .before .before .before .before .before .before .args .count) (c .before .before .widths .ensures) (c .before .before .before .before .before .before .byte-at .ensures)
-    (c .before .before .before .before .before .wide .ensures) (c .before .items .ensures)
 
 where-groups-requires : tie.Need-where-groups-requires
 where-groups-requires c κs = search needs
@@ -67,13 +56,13 @@ first-of-requires-3 : tie.Need-first-of-requires-3
 first-of-requires-3 c κs = search needs
 
 returns : tie.Need-returns
-returns c = grouped-bytes (c .before .before .before .before .before .before .before .before .before .before .before .before .before .before .before .before .args .frame .now)
-    (c .before .before .before .before .before .before .before .before .before .before .before .before .before .before .before .before .args .shape .now)
-    (c .before .before .before .before .before .before .before .before .before .before .before .before .before .before .before .before .args .count)
-    (c .before .before .before .before .before .before .before .before .before .widths .ensures) (c .before .before .before .before .before .before .before .before .before .before .before .before .before .byte-at .ensures)
-    (c .before .before .before .before .before .before .before .before .before .before .before .before .wide .ensures) (c .before .before .before .before .before .before .before .before .items .ensures) (c .before .from-list .ensures)
-    (c .before .before .before .before .before .before .before .before .before .before .before .byte-at2 .ensures) (c .before .before .before .before .before .before .before .before .before .before .byte-at3 .ensures)
-    (c .before .before .before .between2 .ensures) (c .before .before .before .before .before .between .ensures) (c .before .before .before .before .before .before .where-groups .ensures)
+returns c = grouped-bytes (c .before .before .before .before .before .before .before .before .before .before .before .before .before .before .args .frame .now)
+    (c .before .before .before .before .before .before .before .before .before .before .before .before .before .before .args .shape .now)
+    (c .before .before .before .before .before .before .before .before .before .before .before .before .before .before .args .count)
+    (c .before .before .before .before .before .before .before .from-items .ensures) (c .before .before .before .before .before .before .before .before .before .before .before .byte-at .ensures)
+    (c .before .before .before .before .before .before .before .before .before .before .wide .ensures) (c .before .from-list .ensures)
+    (c .before .before .before .before .before .before .before .before .before .byte-at2 .ensures) (c .before .before .before .before .before .before .before .before .byte-at3 .ensures) (c .before .before .before .between2 .ensures)
+    (c .before .before .before .before .before .between .ensures) (c .before .before .before .before .before .before .where-groups .ensures)
     (c .before .before .before .before .first-of .ensures) (c .before .before .first-of2 .ensures) (c .first-of3 .ensures)
 
 pub grouped-bytes-spec : {M : Type 1} → statement M
@@ -86,12 +75,9 @@ grouped-bytes-spec =
     byte-at-requires-2
     add-byte-at
     byte-at-requires-3
-    widths-requires
-    items-requires
+    from-items-requires
     add-where-groups
     add-where-groups-2
-    array-share-prefix-cols
-    slice-aggregate-where-groups
     where-groups-requires
     add-between
     between-requires

@@ -3,18 +3,19 @@ use borrow.Author.Needs.{needs}
 use native.Mathlib.Omega.{arith}
 use mathlib.Core.Path.{sym, _∙_}
 use Rattle.language.specs.Frames.{placeField}
+use Rattle.catalog.specs.Items.{relationsIn, widthsIn}
 use Rattle.checker.proofs.ViewByteLaws.{place-skips, place-field, Repeated, repeat-holds, repeat-again, repeat-stops, repeat-ends}
 use Rattle.checker.proofs.view_bytes.places.Statement.{statement}
 use Rattle.checker.proofs.view_bytes.places.Tie as tie
 
 abbrev Inv-loop : tie.InvT-loop
-Inv-loop frame at cols n next₀ left₀ next left = Repeated frame (placeField cols) at n next left
+Inv-loop frame at items shape n next₀ left₀ next left = Repeated frame (placeField (widthsIn shape (relationsIn items))) at n next left
 
 abbrev μ-loop : tie.MeasureT-loop
-μ-loop frame at cols n next₀ left₀ next left = left
+μ-loop frame at items shape n next₀ left₀ next left = left
 
 loop-holds : tie.Need-loop-holds Inv-loop μ-loop
-loop-holds c = repeat-holds _ (place-field (c .before .before .args .cols .now)) _ _ (c .before .before .pre)
+loop-holds c = repeat-holds _ (place-field (widthsIn (c .before .before .args .shape .now) (relationsIn (c .before .before .args .items)))) _ _ (c .before .before .pre)
 
 place-requires : tie.Need-place-requires Inv-loop μ-loop
 place-requires c κs = search needs
@@ -26,8 +27,10 @@ enum-known-number : tie.Need-enum-known-number Inv-loop μ-loop
 enum-known-number c = search needs
 
 returns : tie.Need-returns Inv-loop μ-loop
-returns c = sym (repeat-stops _ (place-field (c .before .before .before .before .before .before .before .before .args .cols .now)) _ _ (c .before .before .before .before .before .loop .inv) (omega arith)
-    (c .before .before .before .place .ensures ∙ place-skips _ (c .before .before .before .before .before .before .before .before .args .cols .now) _) (c .before .number .given .1))
+returns c = sym (repeat-stops _ (place-field (widthsIn (c .before .before .before .before .before .before .before .before .args .shape .now) (relationsIn
+    (c .before .before .before .before .before .before .before .before .args .items)))) _ _ (c .before .before .before .before .before .loop .inv) (omega arith)
+    (c .before .before .before .place .ensures ∙ place-skips _ (widthsIn (c .before .before .before .before .before .before .before .before .args .shape .now) (relationsIn
+    (c .before .before .before .before .before .before .before .before .args .items))) _) (c .before .number .given .1))
 
 sub-left : tie.Need-sub-left Inv-loop μ-loop
 sub-left c = omega arith
@@ -36,11 +39,13 @@ loop-less : tie.Need-loop-less Inv-loop μ-loop
 loop-less c = omega arith
 
 loop-again : tie.Need-loop-again Inv-loop μ-loop
-loop-again c = repeat-again _ (place-field (c .before .before .before .before .before .before .before .before .args .cols .now)) _ _ (c .before .before .before .before .before .loop .inv) (omega arith)
-    (c .before .before .before .place .ensures ∙ place-skips _ (c .before .before .before .before .before .before .before .before .args .cols .now) _) (c .before .end .given .1)
+loop-again c = repeat-again _ (place-field (widthsIn (c .before .before .before .before .before .before .before .before .args .shape .now) (relationsIn
+    (c .before .before .before .before .before .before .before .before .args .items)))) _ _ (c .before .before .before .before .before .loop .inv) (omega arith)
+    (c .before .before .before .place .ensures ∙ place-skips _ (widthsIn (c .before .before .before .before .before .before .before .before .args .shape .now) (relationsIn
+    (c .before .before .before .before .before .before .before .before .args .items))) _) (c .before .end .given .1)
 
 returns-2 : tie.Need-returns-2 Inv-loop μ-loop
-returns-2 c = sym (repeat-ends _ (place-field (c .before .before .before .before .args .cols .now)) _ _ (c .before .loop .inv) (omega arith))
+returns-2 c = sym (repeat-ends _ (place-field (widthsIn (c .before .before .before .before .args .shape .now) (relationsIn (c .before .before .before .before .args .items)))) _ _ (c .before .loop .inv) (omega arith))
 
 pub places-spec : {M : Type 1} → statement M
 places-spec =

@@ -1,5 +1,6 @@
 -- `checker::view_bytes::where_groups` meets its contract. Assumes nothing.
 use borrow.Author.Needs.{needs}
+use Rattle.catalog.specs.Items.{relationsIn, widthsIn}
 use Rattle.checker.proofs.ViewByteLaws.{condition-inside, groups-next, groups-stop, where-stop}
 use Rattle.checker.proofs.view_bytes.where_groups.Statement.{statement}
 use Rattle.checker.proofs.view_bytes.where_groups.Tie as tie
@@ -26,11 +27,13 @@ enum-known-number-2 : tie.Need-enum-known-number-2
 enum-known-number-2 c = search needs
 
 returns : tie.Need-returns
-returns c = groups-next _ (c .before .before .before .before .before .before .before .before .before .before .before .args .cols .now) _ (c .before .before .before .before .before .before .before .before .condition .ensures) _ _
+returns c = groups-next _ (widthsIn (c .before .before .before .before .before .before .before .before .before .before .before .args .shape .now) (relationsIn
+    (c .before .before .before .before .before .before .before .before .before .before .before .args .items))) _ (c .before .before .before .before .before .before .before .before .condition .ensures) _ _
     (c .before .before .before .before .before .before .next .given .1) (c .before .before .before .before .places .ensures) (c .before .before .having .given .1) (c .condition-select .ensures)
 
 returns-2 : tie.Need-returns-2
-returns-2 c = groups-stop _ (c .before .before .before .before .before .before .before .before .before .before .args .cols .now) _ (c .before .before .before .before .before .before .before .condition .ensures) _ _
+returns-2 c = groups-stop _ (widthsIn (c .before .before .before .before .before .before .before .before .before .before .args .shape .now) (relationsIn
+    (c .before .before .before .before .before .before .before .before .before .before .args .items))) _ (c .before .before .before .before .before .before .before .condition .ensures) _ _
     (c .before .before .before .before .before .next .given .1) (c .before .before .before .places .ensures) (c .before .number .given .1)
 
 returns-3 : tie.Need-returns-3

@@ -1,11 +1,14 @@
 -- `checker::view_rules::grouped_rules` meets its contract. Assumes nothing.
+use mathlib.Core.Path.{ap, _∙_}
+use Rattle.catalog.specs.Items.{relationsIn}
+use Rattle.catalog.proofs.ItemLaws.{items-back}
 use Rattle.checker.proofs.ViewRuleLaws.{grouped-rules}
 use borrow.Author.Needs.{needs}
 use Rattle.checker.proofs.view_rules.grouped_rules.Statement.{statement}
 use Rattle.checker.proofs.view_rules.grouped_rules.Tie as tie
 
-from-list-requires : tie.Need-from-list-requires
-from-list-requires c κs = search needs
+from-items-requires : tie.Need-from-items-requires
+from-items-requires c κs = search needs
 
 parts-after-requires : tie.Need-parts-after-requires
 parts-after-requires c κs = search needs
@@ -13,11 +16,8 @@ parts-after-requires c κs = search needs
 product-requires : tie.Need-product-requires
 product-requires c κs = search needs
 
-plain-requires : tie.Need-plain-requires
-plain-requires c κs = search needs
-
-condition-requires : tie.Need-condition-requires
-condition-requires c κs = search needs
+filtered-requires : tie.Need-filtered-requires
+filtered-requires c κs = search needs
 
 inside-requires : tie.Need-inside-requires
 inside-requires c κs = search needs
@@ -31,8 +31,8 @@ mul-having c = search needs
 add-having : tie.Need-add-having
 add-having c = search needs
 
-condition-requires-2 : tie.Need-condition-requires-2
-condition-requires-2 c κs = search needs
+condition-requires : tie.Need-condition-requires
+condition-requires c κs = search needs
 
 both-requires : tie.Need-both-requires
 both-requires c κs = search needs
@@ -44,32 +44,32 @@ same-length : tie.Need-same-length
 same-length c = search needs
 
 returns : tie.Need-returns
-returns c = grouped-rules (c .before .before .before .before .before .before .before .before .before .before .before .before .before .before .before .before .args .frame .now)
-    (c .before .before .before .before .before .before .before .before .before .before .before .before .before .before .before .before .args .r)
-    (c .before .before .before .before .before .before .before .before .before .before .before .before .before .before .before .before .args .shape .now)
-    (c .before .before .before .before .before .before .before .before .before .before .before .before .before .before .before .before .args .ends .now) _ _ _
-    (c .before .before .before .before .before .before .before .before .before .before .before .before .parts-after .result) (c .before .before .before .before .before .before .before .before .before .before .before .product .result)
-    (c .before .before .before .before .before .before .before .before .condition .result) (c .before .before .before .before .before .before .before .before .before .plain .result)
-    (c .before .before .before .before .before .before .before .before .before .before .before .before .before .from-list .ensures)
-    (c .before .before .before .before .before .before .before .before .before .before .before .product .ensures) (c .before .before .before .before .before .before .before .before .before .plain .ensures)
-    (c .before .before .before .before .before .before .before .before .condition .ensures) (c .before .before .before .before .before .before .before .before .before .before .before .before .parts-after .ensures)
-    (c .before .before .before .before .before .before .before .inside .result) (c .before .before .before .before .condition2 .result) (c .before .before .before .both .result)
-    (c .before .before .before .both .ensures) (c .before .before .before .before .before .before .before .inside .ensures .1) (c .before .before .before .before .condition2 .ensures) (c .before .tail .ensures)
+returns c = grouped-rules (c .before .before .before .before .before .before .before .before .before .before .before .before .before .before .before .args .frame .now)
+    (c .before .before .before .before .before .before .before .before .before .before .before .before .before .before .before .args .r)
+    (c .before .before .before .before .before .before .before .before .before .before .before .before .before .before .before .args .shape .now)
+    (c .before .before .before .before .before .before .before .before .before .before .before .before .before .before .before .args .ends .now) _ _
+    (relationsIn (c .before .before .before .before .before .before .before .before .before .before .before .before .from-items .result))
+    (c .before .before .before .before .before .before .before .before .before .before .before .parts-after .result)
+    (c .before .before .before .before .before .before .before .before .before .before .product .result) (c .before .before .before .before .before .before .before .before .filtered .result)
+    (λ h. ap relationsIn (c .before .before .before .before .before .before .before .before .before .before .before .before .from-items .ensures) ∙ items-back _ h)
+    (c .before .before .before .before .before .before .before .before .before .before .product .ensures) (c .before .before .before .before .before .before .before .before .filtered .ensures)
+    (c .before .before .before .before .before .before .before .before .before .before .before .parts-after .ensures)
+    (c .before .before .before .before .before .before .before .inside .result) (c .before .before .before .before .condition .result) (c .before .before .before .both .result)
+    (c .before .before .before .both .ensures) (c .before .before .before .before .before .before .before .inside .ensures .1) (c .before .before .before .before .condition .ensures) (c .before .tail .ensures)
 
 pub grouped-rules-spec : {M : Type 1} → statement M
 grouped-rules-spec =
     tie.close
     (tie.spec
-    from-list-requires
+    from-items-requires
     parts-after-requires
     product-requires
-    plain-requires
-    condition-requires
+    filtered-requires
     inside-requires
     cast-having
     mul-having
     add-having
-    condition-requires-2
+    condition-requires
     both-requires
     tail-requires
     same-length

@@ -1,6 +1,7 @@
 -- `checker::view_rules::tail` meets its contract. Assumes nothing.
 use mathlib.Core.Path.{refl}
 use borrow.Author.Needs.{needs}
+use Rattle.catalog.specs.Items.{relationsIn}
 use Rattle.checker.proofs.ViewRuleLaws.{tail-ruled}
 use Rattle.checker.proofs.view_rules.tail.Statement.{statement}
 use Rattle.checker.proofs.view_rules.tail.Tie as tie
@@ -18,12 +19,12 @@ same-length : tie.Need-same-length
 same-length c = search needs
 
 returns : tie.Need-returns
-returns c = tail-ruled (c .before .before .before .before .before .before .before .before .before .before .before .before .args .frame .now)
-    (c .before .before .before .before .before .before .before .before .before .before .before .before .args .head) (c .before .before .before .before .before .before .before .before .before .before .before .before .args .count)
-    (c .before .before .before .before .before .before .before .before .before .before .before .before .args .items .now)
-    (c .before .before .before .before .before .before .before .before .before .before .before .before .args .shape .now)
-    (c .before .before .before .before .before .before .before .before .before .before .before .before .args .ends .now) (c .before .before .before .before .before .before .before .before .before .before .before .before .args .r)
-    (c .before .before .before .before .before .before .before .before .before .before .before .before .args .rule) _ _ (c .before .before .before .before .before .before .before .selects .result .allowed)
+returns c = tail-ruled (c .before .before .before .before .before .before .before .before .before .before .before .args .frame .now)
+    (c .before .before .before .before .before .before .before .before .before .before .before .args .head) (c .before .before .before .before .before .before .before .before .before .before .before .args .count)
+    (relationsIn (c .before .before .before .before .before .before .before .before .before .before .before .args .items))
+    (c .before .before .before .before .before .before .before .before .before .before .before .args .shape .now)
+    (c .before .before .before .before .before .before .before .before .before .before .before .args .ends .now) (c .before .before .before .before .before .before .before .before .before .before .before .args .r)
+    (c .before .before .before .before .before .before .before .before .before .before .before .args .rule) _ _ (c .before .before .before .before .before .before .before .selects .result .allowed)
     (c .before .before .before .before .before .before .before .selects .result .within) (c .before .before .before .before .before .before .before .selects .ensures) (c .before .rules-fault .ensures) refl refl
 
 pub tail-spec : {M : Type 1} → statement M
