@@ -35,24 +35,16 @@ fn six_of(names: &[u8]) -> [u8; 6]
     ]
 }
 
-// The relations that a frame names, of which the first six count.
-// Refused: always six; no relations.
-pub fn items_of(names: &[u8]) -> Items
-    ensures { λ r. ⌜ r ≡ itemsOf (now (names .entry)) ⌝ }
-{
-    Items {
-        relations: six_of(names),
-        number: at_most_six(names.len()),
-    }
-}
-
-// The from items of a basic or an aggregate view's frame.
-// Refused: the bytes of the frame; the relations that any view names.
+// The from items of a basic or an aggregate view's frame, of which the first six count.
+// Refused: as many as the frame has bytes; the bytes of the frame.
 pub fn from_items(frame: &[u8]) -> Items
     ensures { λ r. ⌜ r ≡ itemsOf (fromsIn (now (frame .entry))) ⌝ }
 {
     let list = frames::from_list(frame);
-    items_of(list)
+    Items {
+        relations: six_of(list),
+        number: at_most_six(list.len()),
+    }
 }
 
 // The relation of an item, 0 past the last.
