@@ -60,7 +60,7 @@ pub fn is_needed(shape: &[u8], r: u8) -> bool
 }
 
 // Whether a search asks if it is negative.
-// Refused: where it is not asked; whether its rows are needed.
+// Refused: where it is not asked; whether it is asked of the first relation.
 pub fn is_asked(shape: &[u8], r: u8) -> bool
     ensures { λ b. ⌜ b ≡ eqb (askedAt (now (shape .entry)) r) 1 ⌝ }
 {
@@ -147,6 +147,7 @@ pub fn put_start(shape: &mut [u8], r: u8, start: u32)
     put_byte(shape, at + 5, (start % 256) as u8);
 }
 
+// The relation's rows are needed.
 // Refused: the other flag; the first relation's.
 pub fn set_needed(shape: &mut [u8], r: u8)
     ensures { λ _. ⌜ now (shape .exit) ≡ setNeeded (now (shape .entry)) r ⌝ }
@@ -154,7 +155,8 @@ pub fn set_needed(shape: &mut [u8], r: u8)
     put_byte(shape, ENTRY * (r as usize) + 6, 1);
 }
 
-// Refused: the other flag; the first relation's.
+// It is asked whether the relation is negative.
+// Refused: not asked; the first relation's.
 pub fn set_asked(shape: &mut [u8], r: u8)
     ensures { λ _. ⌜ now (shape .exit) ≡ setAsked (now (shape .entry)) r ⌝ }
 {
