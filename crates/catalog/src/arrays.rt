@@ -41,7 +41,7 @@ pub fn mask_of(shape: &[u8], r: u8) -> u8
 }
 
 // The place of its frame, the frame's length first.
-// Refused: the low byte alone; that of the first relation.
+// Refused: the low byte alone; the key mask as high byte.
 pub fn start_of(shape: &[u8], r: u8) -> usize
     ensures { λ n. ⌜ n ≡ startAt (now (shape .entry)) r ⌝ }
 {
@@ -138,7 +138,7 @@ pub fn put_shape(shape: &mut [u8], r: u8, kind: u8, width: u8, bound: u8, mask: 
 }
 
 // The place of a relation's frame, below 65,536.
-// Refused: the low byte twice; the first relation's.
+// Refused: the low byte twice; the low byte as a flag.
 pub fn put_start(shape: &mut [u8], r: u8, start: u32)
     ensures { λ _. ⌜ now (shape .exit) ≡ putStart (now (shape .entry)) r start ⌝ }
 {

@@ -60,7 +60,7 @@ pub fn relation(items: Items, i: u8) -> u8
 }
 
 // The number of columns of an item, 0 past the last.
-// Refused: that of the first item; the row bound.
+// Refused: that of the first item; that of the second item.
 pub fn width(items: Items, shape: &[u8], i: u8) -> u8
     ensures { λ w. ⌜ w ≡ getD (widthsIn (now (shape .entry)) (relationsIn items)) i 0 ⌝ }
 {
