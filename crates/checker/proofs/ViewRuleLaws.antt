@@ -34,7 +34,7 @@ use Rattle.bounds.proofs.Parts.{ranged-is}
 use Rattle.language.specs.Draft.{Draft, Item, added, relationCount, schemasOf, width}
 use Rattle.language.specs.Frames.{repeated, field, fromList, placeField, basicFrame, groupedFrame, wholeFault}
 use Rattle.checker.specs.Catalogued.{Catalogued}
-use Rattle.checker.specs.ViewRules.{factorAt, productOf, Product, putRanged, viewFault, plainRule, EntryRoom, Selects, RuledAs, Tail, Rules}
+use Rattle.checker.specs.ViewRules.{factorAt, productOf, ProductBound, putRanged, viewFault, plainRule, EntryRoom, Selects, RuledAs, Tail, Rules}
 use Rattle.checker.specs.declared.view_rules.Ruled.{Ruled}
 use Rattle.catalog.proofs.ArrayLaws.{put-length, put-next, put-outside, outside-same, outside-more, outside-ranges}
 use Rattle.checker.proofs.EntryLaws.{view-entered}
@@ -65,7 +65,7 @@ record GroupedOf (frame : List ℕ) (P : Parts) (items shape : List ℕ) (ends :
 
 -- ---- the row bound
 
-pub product-three : (shape items : List ℕ) (p : ℕ) → p ≡ factorAt shape items 0 * factorAt shape items 1 * factorAt shape items 2 → Product shape items p
+pub product-three : (shape items : List ℕ) (p : ℕ) → p ≡ factorAt shape items 0 * factorAt shape items 1 * factorAt shape items 2 → ProductBound shape items p
 unfolding factorAt productOf
 product-three shape items p e = record { product = λ h. e ∙ go items h }
   where
@@ -188,7 +188,7 @@ abbrev pub groupedRule : ℕ → ℕ → ℕ → Rule
 groupedRule bound places g = record { bound = bound; grouped = true; filter = false; places = places; count = g }
 
 module _ (frame : List ℕ) (P : Parts) (items shape : List ℕ) (ends : List ℤ) (r : ℕ) (ends′ : List ℤ) (a : Ruled) (bound : ℕ) (w′ : Tested)
-    (product : Product shape items bound) (t : TestsC frame (P .body) items shape ends (plainRule bound true) w′) where
+    (product : ProductBound shape items bound) (t : TestsC frame (P .body) items shape ends (plainRule bound true) w′) where
   abbrev I : ℕ → OpenRanges
   I = openRangesIn shape ends items
 
@@ -331,7 +331,7 @@ module _ (d : Draft) {shape : List ℕ} {ends : List ℤ} (c : Catalogued d shap
 
 -- from the from list, the other parts, the row bound and the answer for the where
 module _ (frame : List ℕ) (r : ℕ) (shape : List ℕ) (ends ends′ : List ℤ) (a : Ruled) (items : List ℕ) (P : Parts) (bound : ℕ) (w : Tested)
-    (list : length (fromsIn frame) ≤ 6 → items ≡ fromsIn frame) (product : Product shape items bound)
+    (list : length (fromsIn frame) ≤ 6 → items ≡ fromsIn frame) (product : ProductBound shape items bound)
     (t : TestsC frame (P .body) items shape ends (plainRule bound true) w) where
   pub basic-rules : P ≡ partsOf false frame → (rule : Rule) → rule ≡ plainRule bound false → Tail frame w (P .width) items shape ends r rule ends′ a → Rules basicFrame frame r shape ends ends′ a
   basic-rules pe rule re s =

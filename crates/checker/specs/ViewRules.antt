@@ -34,7 +34,7 @@ factorAt shape items i = cond (ltb i (length items)) (boundAt shape (getD items 
 unfoldable pub productOf : List ℕ → List ℕ → ℕ
 productOf shape items = foldr _*_ 1 (map (boundAt shape) items)
 
-pub record Product (shape items : List ℕ) (p : ℕ) : Type 0 where
+pub record ProductBound (shape items : List ℕ) (p : ℕ) : Type 0 where
   pub product : length items ≤ 3 → p ≡ productOf shape items
 
 -- a column's range stored if it fits

@@ -15,7 +15,7 @@ ghost use lib.ListN.{length, drop};
 ghost use Rattle.catalog.specs.Items.{relationsIn};
 ghost use Rattle.bounds.specs.Walk.{isWithin, TestsC};
 ghost use Rattle.language.specs.Frames.{basicFrame, groupedFrame};
-ghost use Rattle.checker.specs.ViewRules.{putRanged, factorAt, viewFault, plainRule, Product, Selects, Tail, Rules};
+ghost use Rattle.checker.specs.ViewRules.{putRanged, factorAt, viewFault, plainRule, ProductBound, Selects, Tail, Rules};
 
 // The fault of a view's frame that its bytes leave open, 0 for none; its row bound and its number of columns.
 pub struct Ruled {
@@ -41,8 +41,8 @@ fn factor(items: Items, shape: &[u8], i: u8) -> u8
 }
 
 // The product of the row bounds of up to 3 from items.
-fn product(items: Items, shape: &[u8]) -> u32
-    ensures { λ p. ⌜ Product (now (shape .entry)) (relationsIn items) p ⌝ }
+fn product_bound(items: Items, shape: &[u8]) -> u32
+    ensures { λ p. ⌜ ProductBound (now (shape .entry)) (relationsIn items) p ⌝ }
 {
     let a = factor(items, shape, 0) as u32;
     let b = factor(items, shape, 1) as u32;
@@ -179,7 +179,7 @@ pub fn basic_rules(frame: &[u8], shape: &[u8], ends: &mut [i32], r: u8) -> Ruled
 {
     let items = from_items(frame);
     let parts = frames::parts_after(frame, false);
-    let bound = product(items, shape);
+    let bound = product_bound(items, shape);
     let w = filtered(frame, parts.body, items, shape, ends, bound);
     let rule = plain(bound, false);
     tail(frame, w, parts.width, items, shape, ends, r, rule)
@@ -192,7 +192,7 @@ pub fn grouped_rules(frame: &[u8], shape: &[u8], ends: &mut [i32], r: u8) -> Rul
 {
     let items = from_items(frame);
     let parts = frames::parts_after(frame, true);
-    let bound = product(items, shape);
+    let bound = product_bound(items, shape);
     let w = filtered(frame, parts.body, items, shape, ends, bound);
     let places = inside(frame, w.next);
     let rule = Rule {

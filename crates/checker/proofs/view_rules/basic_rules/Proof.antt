@@ -13,8 +13,8 @@ from-items-requires c κs = search needs
 parts-after-requires : tie.Need-parts-after-requires
 parts-after-requires c κs = search needs
 
-product-requires : tie.Need-product-requires
-product-requires c κs = search needs
+product-bound-requires : tie.Need-product-bound-requires
+product-bound-requires c κs = search needs
 
 filtered-requires : tie.Need-filtered-requires
 filtered-requires c κs = search needs
@@ -32,9 +32,9 @@ returns : tie.Need-returns
 returns c = basic-rules (c .before .before .before .before .before .before .before .before .before .before .before .args .frame .now) (c .before .before .before .before .before .before .before .before .before .before .before .args .r)
     (c .before .before .before .before .before .before .before .before .before .before .before .args .shape .now) (c .before .before .before .before .before .before .before .before .before .before .before .args .ends .now) _ _
     (relationsIn (c .before .before .before .before .before .before .before .before .from-items .result)) (c .before .before .before .before .before .before .before .parts-after .result)
-    (c .before .before .before .before .before .before .product .result) (c .before .before .before .before .filtered .result)
+    (c .before .before .before .before .before .before .product-bound .result) (c .before .before .before .before .filtered .result)
     (λ h. ap relationsIn (c .before .before .before .before .before .before .before .before .from-items .ensures) ∙ items-back _ h)
-    (c .before .before .before .before .before .before .product .ensures) (c .before .before .before .before .filtered .ensures)
+    (c .before .before .before .before .before .before .product-bound .ensures) (c .before .before .before .before .filtered .ensures)
     (c .before .before .before .before .before .before .before .parts-after .ensures) (c .before .before .before .plain .result) (c .before .before .before .plain .ensures) (c .before .tail .ensures)
 
 pub basic-rules-spec : {M : Type 1} → statement M
@@ -43,7 +43,7 @@ basic-rules-spec =
     (tie.spec
     from-items-requires
     parts-after-requires
-    product-requires
+    product-bound-requires
     filtered-requires
     plain-requires
     tail-requires

@@ -13,8 +13,8 @@ from-items-requires c κs = search needs
 parts-after-requires : tie.Need-parts-after-requires
 parts-after-requires c κs = search needs
 
-product-requires : tie.Need-product-requires
-product-requires c κs = search needs
+product-bound-requires : tie.Need-product-bound-requires
+product-bound-requires c κs = search needs
 
 filtered-requires : tie.Need-filtered-requires
 filtered-requires c κs = search needs
@@ -50,9 +50,9 @@ returns c = grouped-rules (c .before .before .before .before .before .before .be
     (c .before .before .before .before .before .before .before .before .before .before .before .before .before .before .before .args .ends .now) _ _
     (relationsIn (c .before .before .before .before .before .before .before .before .before .before .before .before .from-items .result))
     (c .before .before .before .before .before .before .before .before .before .before .before .parts-after .result)
-    (c .before .before .before .before .before .before .before .before .before .before .product .result) (c .before .before .before .before .before .before .before .before .filtered .result)
+    (c .before .before .before .before .before .before .before .before .before .before .product-bound .result) (c .before .before .before .before .before .before .before .before .filtered .result)
     (λ h. ap relationsIn (c .before .before .before .before .before .before .before .before .before .before .before .before .from-items .ensures) ∙ items-back _ h)
-    (c .before .before .before .before .before .before .before .before .before .before .product .ensures) (c .before .before .before .before .before .before .before .before .filtered .ensures)
+    (c .before .before .before .before .before .before .before .before .before .before .product-bound .ensures) (c .before .before .before .before .before .before .before .before .filtered .ensures)
     (c .before .before .before .before .before .before .before .before .before .before .before .parts-after .ensures)
     (c .before .before .before .before .before .before .before .inside .result) (c .before .before .before .before .condition .result) (c .before .before .before .both .result)
     (c .before .before .before .both .ensures) (c .before .before .before .before .before .before .before .inside .ensures .1) (c .before .before .before .before .condition .ensures) (c .before .tail .ensures)
@@ -63,7 +63,7 @@ grouped-rules-spec =
     (tie.spec
     from-items-requires
     parts-after-requires
-    product-requires
+    product-bound-requires
     filtered-requires
     inside-requires
     cast-having

@@ -1,12 +1,12 @@
--- `checker::view_rules::product` meets its contract. Assumes nothing.
+-- `checker::view_rules::product_bound` meets its contract. Assumes nothing.
 use mathlib.Core.Path.{ap₂}
 use Prim.Native.Nat.{_≤_, _*_}
 use native.Mathlib.Nat.{mul-le-mul}
 use native.Mathlib.Omega.{arith}
 use borrow.Author.Needs.{needs}
 use Rattle.checker.proofs.ViewRuleLaws.{product-three}
-use Rattle.checker.proofs.view_rules.product.Statement.{statement}
-use Rattle.checker.proofs.view_rules.product.Tie as tie
+use Rattle.checker.proofs.view_rules.product_bound.Statement.{statement}
+use Rattle.checker.proofs.view_rules.product_bound.Tie as tie
 
 factor-requires : tie.Need-factor-requires
 factor-requires c κs = search needs
@@ -40,8 +40,8 @@ mul-result-2 c = let a : c .before .before .factor .result ≤ 255 = omega arith
 returns : tie.Need-returns
 returns c = product-three _ _ _ (ap₂ _*_ (ap₂ _*_ (c .before .before .factor .ensures) (c .before .factor2 .ensures)) (c .factor3 .ensures))
 
-pub product-spec : {M : Type 1} → statement M
-product-spec =
+pub product-bound-spec : {M : Type 1} → statement M
+product-bound-spec =
     tie.close
     (tie.spec
     factor-requires
