@@ -15,7 +15,7 @@ use Rattle.meaning.specs.Syntax.{Row}
 use Rattle.meaning.specs.Evaluation.{missing}
 use Rattle.meaning.proofs.ListSteps.{map-at}
 use Rattle.store.specs.Strides
-use Rattle.store.specs.Layout.{sizes, cellIn, putCell, relationLimit, rowLimit, columnLimit, area}
+use Rattle.store.specs.Layout.{sizes, cellIn, putCell, relationLimit, rowLimit, columnLimit, area, OnlyCells}
 use Rattle.store.specs.Rows.{listed, rowIn, rowsIn, putCells, putRow, rowOf, withValue}
 use Rattle.store.specs.declared.Row.{Row as Values}
 use Rattle.store.proofs.Listed.{listed-same, length-listed, getD-listed, set-last, set-listed, map-set}
@@ -65,6 +65,29 @@ pub put-grows : (work : List ℤ) (r n w : ℕ) (row : Row) → r < relationLimi
     → rowsIn (putRow work r n w row) r w (suc n) ≡ rowsIn work r w n ++ (row ∷ [])
 unfolding rowsIn
 put-grows = StrideLaws.put-grows sizes
+
+-- ---- what may change
+
+module _ {P : ℕ → Type 0} where
+  pub only-same : (work : List ℤ) → OnlyCells P work work
+  only-same = StrideLaws.only-same sizes
+
+  pub only-more : {a b c : List ℤ} → OnlyCells P a b → OnlyCells P b c → OnlyCells P a c
+  only-more = StrideLaws.only-more sizes
+
+  pub only-wider : {Q : ℕ → Type 0} {a b : List ℤ} → ((r : ℕ) → P r → Q r) → OnlyCells P a b → OnlyCells Q a b
+  only-wider = StrideLaws.only-wider sizes
+
+  pub only-put-cell : (work : List ℤ) (r i c : ℕ) (v : Value) → P r → OnlyCells P work (putCell work r i c v)
+  only-put-cell = StrideLaws.only-put-cell sizes
+
+  pub only-put-row : (work : List ℤ) (r i w : ℕ) (row : Row) → P r → OnlyCells P work (putRow work r i w row)
+  only-put-row = StrideLaws.only-put-row sizes
+
+  -- the rows of every other relation stay
+  pub only-rows : {work work′ : List ℤ} → OnlyCells P work work′ → (r w n : ℕ) → (P r → ⊥) → rowsIn work′ r w n ≡ rowsIn work r w n
+  unfolding rowsIn
+  only-rows = StrideLaws.only-rows sizes
 
 -- ---- rows by value
 

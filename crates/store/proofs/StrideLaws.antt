@@ -18,7 +18,7 @@ use Rattle.value.proofs.Values.{number-stored}
 use Rattle.value.proofs.Decides.{by-test, and-parts}
 use Rattle.meaning.specs.Syntax.{Row}
 use Rattle.meaning.specs.Evaluation.{missing}
-use Rattle.store.specs.Strides.{Sizes, listed, stretch, area, inside, position, cellIn, putCell, rowIn, rowsIn, putCells, room, putRow, RowPut}
+use Rattle.store.specs.Strides.{Sizes, listed, stretch, area, inside, position, cellIn, putCell, rowIn, rowsIn, putCells, room, putRow, RowPut, CellOf, OnlyCells}
 use Rattle.store.proofs.Listed.{listed-same, length-listed, getD-listed, listed-getD}
 
 -- ---- numbers
@@ -250,3 +250,43 @@ module _ (s : Sizes) where
       let whole = putCells s work r i w row in
       rw (e, drop-of-length-le (drop p work) {i = length work - p} all, append-nil, q, take-all (length work - p) (drop p work) all, ← put-cells-part work r i w row (l .0), ← put-cells-before work r i w row)
       (take-append-drop p whole)
+
+  -- ---- what may change
+
+  module _ {P : ℕ → Type 0} where
+    pub only-same : (work : List ℤ) → OnlyCells s P work work
+    only-same work = record { size = refl; kept = λ k n. refl }
+
+    pub only-more : {a b c : List ℤ} → OnlyCells s P a b → OnlyCells s P b c → OnlyCells s P a c
+    only-more p q = record { size = q .size ∙ p .size; kept = λ k n. q .kept k n ∙ p .kept k n }
+
+    pub only-wider : {Q : ℕ → Type 0} {a b : List ℤ} → ((r : ℕ) → P r → Q r) → OnlyCells s P a b → OnlyCells s Q a b
+    only-wider f p = record { size = p .size; kept = λ k n. p .kept k (λ r h. n r (f r h)) }
+
+    -- a cell and a row of a relation that P has
+    pub only-put-cell : (work : List ℤ) (r i c : ℕ) (v : Value) → P r → OnlyCells s P work (putCell s work r i c v)
+    unfolding putCell
+    only-put-cell work r i c v h = record {
+      size = put-cell-length work r i c v;
+      kept = λ k n. by-test (inside s r i c)
+          (λ e. rw e (getD-set-other work (position s r i c) k (stored v) (pos 0) (λ q. n r h (record { row = i; column = c; there = e; number = q }))))
+          (λ e. rw e);
+    }
+
+    only-put-cells : (work : List ℤ) (r i w : ℕ) (row : Row) → P r → OnlyCells s P work (putCells s work r i w row)
+    unfolding putCells
+    only-put-cells work r i zero row h = only-same work
+    only-put-cells work r i (suc c) row h = only-more (only-put-cells work r i c row h) (only-put-cell (putCells s work r i c row) r i c (getD row c missing) h)
+
+    pub only-put-row : (work : List ℤ) (r i w : ℕ) (row : Row) → P r → OnlyCells s P work (putRow s work r i w row)
+    unfolding putRow
+    only-put-row work r i w row h = by-test (room s work r i w) (λ e. rw e (only-put-cells work r i w row h)) (λ e. rw e (only-same work))
+
+    -- the rows of every other relation stay
+    pub only-rows : {work work′ : List ℤ} → OnlyCells s P work work′ → (r w n : ℕ) → (P r → ⊥) → rowsIn s work′ r w n ≡ rowsIn s work r w n
+    unfolding cellIn
+    only-rows {work} {work′} o r w n h =
+        rows-same work work′ r w n
+        (λ i c _ _. by-test (inside s r i c)
+        (λ e. rw e (ap Value.number (o .kept (position s r i c) (λ r′ p x. apart r′ (x .row) (x .column) r i c (x .there) e (λ q _ _. h (rw q p)) (x .number)))))
+        (λ e. rw e))

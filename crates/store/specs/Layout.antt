@@ -39,3 +39,9 @@ cellIn = Strides.cellIn sizes
 
 abbrev pub putCell : List ℤ → ℕ → ℕ → ℕ → Value → List ℤ
 putCell = Strides.putCell sizes
+
+abbrev pub CellOf : ℕ → ℕ → Type 0
+CellOf = Strides.CellOf sizes
+
+abbrev pub OnlyCells : (ℕ → Type 0) → List ℤ → List ℤ → Type 0
+OnlyCells = Strides.OnlyCells sizes

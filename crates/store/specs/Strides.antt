@@ -2,7 +2,7 @@
 -- says where a cell lies; every other definition, and every law on rows, speaks of cells by relation, row and column, so that another
 -- layout changes it and the proofs that open it. Assumes nothing: these are definitions, and they compute.
 use mathlib.Core.Path.{_≡_}
-use mathlib.Core.Bool.{Bool, _&&_, cond}
+use mathlib.Core.Bool.{Bool, true, _&&_, cond}
 use mathlib.Core.List.{List, [], _∷_, _++_}
 use Prim.Native.Nat.{ℕ, zero, suc, _+_, _*_, _≤_}
 use lib.Dec.{ltb, leb}
@@ -74,3 +74,17 @@ module _ (s : Sizes) where
     pub there : rowsIn work′ r (length row) (suc n) ≡ rowsIn work r (length row) n ++ (row ∷ [])
     pub earlier : (r′ w′ n′ : ℕ) → n′ ≤ n → rowsIn work′ r′ w′ n′ ≡ rowsIn work r′ w′ n′
     pub others : (r′ w′ n′ : ℕ) → (r′ ≡ r → ⊥) → rowsIn work′ r′ w′ n′ ≡ rowsIn work r′ w′ n′
+
+  -- ---- what may change
+
+  -- number k of the work area is a cell of relation r
+  pub record CellOf (r k : ℕ) : Type 0 where
+    pub row : ℕ
+    pub column : ℕ
+    pub there : inside r row column ≡ true
+    pub number : k ≡ position r row column
+
+  -- cells of the relations that P has may change, and no other number: those kept free and those behind the area stay
+  pub record OnlyCells (P : ℕ → Type 0) (work work′ : List ℤ) : Type 0 where
+    pub size : length work′ ≡ length work
+    pub kept : (k : ℕ) → ((r : ℕ) → P r → CellOf r k → ⊥) → getD work′ k (pos 0) ≡ getD work k (pos 0)
