@@ -14,6 +14,7 @@ use Rattle.value.specs.Integer.{bytesZ}
 use Rattle.value.specs.Value.{operationAt, comparisonAt, connectiveAt, aggregateAt}
 use Rattle.range.specs.Ranges.{ranged, constantOf}
 use Rattle.range.specs.declared.Ranged.{Ranged}
+use Rattle.range.specs.declared.Ranged.the-variants.{Beyond}
 use Rattle.meaning.specs.Syntax.{Expr, Cond}
 use Rattle.language.specs.Prefix.{operationToken, comparisonToken, connectiveToken}
 use Rattle.language.specs.Reading.{Read, Open, byte, byteIf, step, choose, expressions, conditions, readE, readC}
@@ -73,17 +74,17 @@ module _ (frame items shape : List ℕ) (ends : List ℤ) (rule : Rule) where
           (m .0, ap₂ _&&_ (l .1) (m .1), l .2, m .2);
     }
 
-    pub endE : length frame ≤ at → {r : Sized} {b : Bool} {v : Ranged} → r ≡ sized at b v
-        → SizesE frame at items shape ends rule r
+    pub endE : length frame ≤ at → {r : Sized} → r ≡ sized at false Beyond → SizesE frame at items shape ends rule r
     endE p s = rw s (record {
       further = omega arith;
+      no-token = λ _. refl;
       sizes = λ e rest q. never (sym (ap (readE W) (drop-of-length-le frame p) ∙ readE-nil W) ∙ q);
     })
 
-    pub endC : length frame ≤ at → {r : Tested} {b w : Bool} → r ≡ tested at b w
-        → TestsC frame at items shape ends rule r
+    pub endC : length frame ≤ at → {r : Tested} → r ≡ tested at false false → TestsC frame at items shape ends rule r
     endC p s = rw s (record {
       further = omega arith;
+      no-token = λ _. refl;
       tests = λ c rest q. never (sym (ap (readC W) (drop-of-length-le frame p) ∙ readC-nil W) ∙ q);
     })
 
@@ -94,13 +95,13 @@ module _ (frame items shape : List ℕ) (ends : List ℤ) (rule : Rule) where
       token : (t : ℕ) → getD frame at 0 ≡ t → drop at frame ≡ t ∷ body
       token t e = drop-cons frame at 0 lt ∙ rw (e, add-one)
 
-      onE : {x : Read Expr} {r : Sized} → readE W (drop at frame) ≡ x → at ≤ r .next
+      onE : {x : Read Expr} {r : Sized} → readE W (drop at frame) ≡ x → at ≤ r .next → getD frame at 0 < 0x08
           → ((e : Expr) (rest : List ℕ) → x ≡ Read.ok e rest → FactsE r e rest) → SizesE frame at items shape ends rule r
-      onE h le f = record { further = le; sizes = λ e rest q. f e rest (sym h ∙ q) }
+      onE h le known f = record { further = le; no-token = λ n. absurd (omega (arith, n lt)); sizes = λ e rest q. f e rest (sym h ∙ q) }
 
-      onC : {x : Read Cond} {r : Tested} → readC W (drop at frame) ≡ x → at ≤ r .next
+      onC : {x : Read Cond} {r : Tested} → readC W (drop at frame) ≡ x → at ≤ r .next → 0x10 ≤ getD frame at 0 → getD frame at 0 < 0x17
           → ((c : Cond) (rest : List ℕ) → x ≡ Read.ok c rest → FactsC r c rest) → TestsC frame at items shape ends rule r
-      onC h le f = record { further = le; tests = λ c rest q. f c rest (sym h ∙ q) }
+      onC h le low high f = record { further = le; no-token = λ n. absurd (n lt low high); tests = λ c rest q. f c rest (sym h ∙ q) }
 
       atE : (t : ℕ) → getD frame at 0 ≡ t → readE W (drop at frame) ≡ choose (expressions W (readE W) (readC W)) t body
       atE t k = ap (readE W) (token t k) ∙ readE-step W t body
@@ -112,7 +113,7 @@ module _ (frame items shape : List ℕ) (ends : List ℤ) (rule : Rule) where
       pub on-constant : getD frame at 0 ≡ 0x00
           → {r : Sized} → r ≡ sized (at + 1 + 2) true (ranged (constantOf (bytesZ (getD frame (at + 1) 0) (getD frame (at + 1 + 1) 0))))
           → SizesE frame at items shape ends rule r
-      on-constant k s = rw s (onE (atE 0x00 k) (omega arith) (λ e rest q.
+      on-constant k s = rw s (onE (atE 0x00 k) (omega arith) (omega arith) (λ e rest q.
           let (h, l, p, j) = then-ok (byte body) _ q in
           let (g, m, u, z) = then-ok (byte l) _ j in
           let t = two-read frame (at + 1) (byte-ok body p) (byte-ok l u) in
@@ -120,7 +121,7 @@ module _ (frame items shape : List ℕ) (ends : List ℤ) (rule : Rule) where
           (t .behind, refl, ap₂ (λ i j. ranged (constantOf (bytesZ i j))) (t .first) (t .second) ∙ ranged-constant I (bytesZ h g))))
 
       pub on-column : getD frame at 0 ≡ 0x01 → {r : Sized} → r ≡ columnAt frame (at + 1) items shape ends rule → SizesE frame at items shape ends rule r
-      on-column k s = rw s (onE (atE 0x01 k) (omega arith) (λ e rest q.
+      on-column k s = rw s (onE (atE 0x01 k) (omega arith) (omega arith) (λ e rest q.
           let t = column-at frame (W .widths) (at + 1) q in
           rw (t .0) (t .1, refl, ranged-column shape ends items (rule .bound) (getD frame (at + 1) 0) (getD frame (at + 1 + 1) 0))))
 
@@ -131,7 +132,7 @@ module _ (frame items shape : List ℕ) (ends : List ℤ) (rule : Rule) where
           let op = operationAt (getD frame at 0 - 0x02) in
           let k : getD frame at 0 ≡ 0x02 + (getD frame at 0 - 0x02) = omega arith in
           let i : getD frame at 0 ≡ operationToken op = k ∙ operation-token (getD frame at 0 - 0x02) (omega arith) in
-          rw s (onE (ap (readE W) (token (operationToken op) i) ∙ readE-operation W op body) (omega (arith, m .further)) (λ e rest q.
+          rw s (onE (ap (readE W) (token (operationToken op) i) ∙ readE-operation W op body) (omega (arith, m .further)) (omega arith) (λ e rest q.
           let (a, l, y, j) = then-ok (readE W body) _ q in
           let (b, n, u, z) = then-ok (readE W l) _ j in
           let f = m .sizes a b l n y u in
@@ -141,7 +142,7 @@ module _ (frame items shape : List ℕ) (ends : List ℤ) (rule : Rule) where
       pub on-rounding : getD frame at 0 ≡ 0x05 → {a : Sized} → SizesE frame (at + 1 + 2) items shape ends rule a
           → {m : ℕ} → m ≡ getD frame (at + 1) 0 * 256 + getD frame (at + 1 + 1) 0
           → {r : Sized} → r ≡ sized (a .next) (a .allowed) (roundedR m (a .range)) → SizesE frame at items shape ends rule r
-      on-rounding k {a} d {m} e s = rw s (onE (atE 0x05 k) (omega (arith, d .further)) (λ y rest q.
+      on-rounding k {a} d {m} e s = rw s (onE (atE 0x05 k) (omega (arith, d .further)) (omega arith) (λ y rest q.
           let (n, l, h, j) = then-ok (step body) _ q in
           let (b, o, u, z) = then-ok (readE W l) _ j in
           let t = step-at frame (at + 1) h in
@@ -152,7 +153,7 @@ module _ (frame items shape : List ℕ) (ends : List ℤ) (rule : Rule) where
       pub on-choice : getD frame at 0 ≡ 0x06 → {c : Tested} → TestsC frame (at + 1) items shape ends rule c
           → {p : TwoSized} → SizesTwo frame (c .next) items shape ends rule p
           → {r : Sized} → r ≡ sized (p .next) (c .allowed && p .allowed) (chosenR (c .within) (p .first) (p .second)) → SizesE frame at items shape ends rule r
-      on-choice k {c} d {p} m s = rw s (onE (atE 0x06 k) (omega (arith, d .further, m .further)) (λ y rest q.
+      on-choice k {c} d {p} m s = rw s (onE (atE 0x06 k) (omega (arith, d .further, m .further)) (omega arith) (λ y rest q.
           let (t, l, h, j) = then-ok (readC W body) _ q in
           let (a, n, u, i) = then-ok (readE W l) _ j in
           let (b, o, w, z) = then-ok (readE W n) _ i in
@@ -169,7 +170,7 @@ module _ (frame items shape : List ℕ) (ends : List ℤ) (rule : Rule) where
       unfolding permittedOf
       on-aggregate k {n} e {inner} i {a} d′ s =
           let d : SizesE frame (at + 1 + 1) items shape ends (insideOf rule) a = rw i at d′ in
-          rw s (onE (atE 0x07 k) (omega (arith, d .further)) (λ y rest q.
+          rw s (onE (atE 0x07 k) (omega (arith, d .further)) (omega arith) (λ y rest q.
           let here : ℕ → Bool = λ b. leb b 3 in
           let (o, l, h, j) = then-ok (byteIf 5 here body) _ q in
           let (b, w, u, z) = then-ok (readE W l) _ j in
@@ -182,8 +183,12 @@ module _ (frame items shape : List ℕ) (ends : List ℤ) (rule : Rule) where
       other : (t k : ℕ) → 0x08 ≤ t → k < 0x08 → eqb t k ≡ false
       other t k h l = ne-eqb t k (λ e. omega arith)
 
-      pub unknownE : 0x08 ≤ getD frame at 0 → {b : Bool} {v : Ranged} {r : Sized} → r ≡ sized at b v → SizesE frame at items shape ends rule r
-      unknownE h s = rw s (onE (atE (getD frame at 0) refl) (omega arith) (λ e rest q. never (sym (none-of (getD frame at 0) h) ∙ q)))
+      pub unknownE : 0x08 ≤ getD frame at 0 → {r : Sized} → r ≡ sized at false Beyond → SizesE frame at items shape ends rule r
+      unknownE h s = rw s (record {
+        further = omega arith;
+        no-token = λ _. refl;
+        sizes = λ e rest q. never (sym (atE (getD frame at 0) refl ∙ none-of (getD frame at 0) h) ∙ q);
+      })
         where
           none-of : (t : ℕ) → 0x08 ≤ t → choose (expressions W (readE W) (readC W)) t body ≡ Read.refused 4
           none-of t l =
@@ -200,7 +205,7 @@ module _ (frame items shape : List ℕ) (ends : List ℤ) (rule : Rule) where
 
       -- ---- conditions
       pub on-always : getD frame at 0 ≡ 0x10 → {r : Tested} → r ≡ tested (at + 1) true true → TestsC frame at items shape ends rule r
-      on-always k s = rw s (onC (atC 0x10 k) (omega arith) (λ c rest q. settle (FactsC (tested (at + 1) true true)) q (refl, refl, refl)))
+      on-always k s = rw s (onC (atC 0x10 k) (omega arith) (omega arith) (omega arith) (λ c rest q. settle (FactsC (tested (at + 1) true true)) q (refl, refl, refl)))
 
       pub on-comparison : 0x11 ≤ getD frame at 0 → getD frame at 0 < 0x14 → {p : TwoSized} → SizesTwo frame (at + 1) items shape ends rule p
           → {u w : Bool} → u ≡ isWithin (p .first) → w ≡ isWithin (p .second)
@@ -209,7 +214,7 @@ module _ (frame items shape : List ℕ) (ends : List ℤ) (rule : Rule) where
           let op = comparisonAt (getD frame at 0 - 0x11) in
           let k : getD frame at 0 ≡ 0x11 + (getD frame at 0 - 0x11) = omega arith in
           let i : getD frame at 0 ≡ comparisonToken op = k ∙ comparison-token (getD frame at 0 - 0x11) (omega arith) in
-          rw s (onC (ap (readC W) (token (comparisonToken op) i) ∙ readC-comparison W op body) (omega (arith, m .further)) (λ c rest q.
+          rw s (onC (ap (readC W) (token (comparisonToken op) i) ∙ readC-comparison W op body) (omega (arith, m .further)) (omega arith) (omega arith) (λ c rest q.
           let (a, l, g, j) = then-ok (readE W body) _ q in
           let (b, n, h, z) = then-ok (readE W l) _ j in
           let f = m .sizes a b l n g h in
@@ -217,7 +222,7 @@ module _ (frame items shape : List ℕ) (ends : List ℤ) (rule : Rule) where
           (f .0, f .1, ap₂ _&&_ (x ∙ ap isWithin (f .2) ∙ ranged-is I a) (y ∙ ap isWithin (f .3) ∙ ranged-is I b))))
 
       pub on-negated : getD frame at 0 ≡ 0x14 → {r : Tested} → TestsC frame (at + 1) items shape ends rule r → TestsC frame at items shape ends rule r
-      on-negated k {r} d = onC (atC 0x14 k) (omega (arith, d .further)) (λ c rest q.
+      on-negated k {r} d = onC (atC 0x14 k) (omega (arith, d .further)) (omega arith) (omega arith) (λ c rest q.
           let (t, l, h, z) = then-ok (readC W body) _ q in
           settle (FactsC r) z (d .tests t l h))
 
@@ -228,7 +233,7 @@ module _ (frame items shape : List ℕ) (ends : List ℤ) (rule : Rule) where
           let op = connectiveAt (getD frame at 0 - 0x15) in
           let k : getD frame at 0 ≡ 0x15 + (getD frame at 0 - 0x15) = omega arith in
           let i : getD frame at 0 ≡ connectiveToken op = k ∙ connective-token (getD frame at 0 - 0x15) (omega arith) in
-          rw s (onC (ap (readC W) (token (connectiveToken op) i) ∙ readC-connection W op body) (omega (arith, d .further, m .further)) (λ c rest q.
+          rw s (onC (ap (readC W) (token (connectiveToken op) i) ∙ readC-connection W op body) (omega (arith, d .further, m .further)) (omega arith) (omega arith) (λ c rest q.
           let (t, l, g, j) = then-ok (readC W body) _ q in
           let (u, n, h, z) = then-ok (readC W l) _ j in
           let f = d .tests t l g in
@@ -236,8 +241,12 @@ module _ (frame items shape : List ℕ) (ends : List ℤ) (rule : Rule) where
           settle (FactsC (tested (b .next) (a .allowed && b .allowed) (a .within && b .within))) z
           (e .0, ap₂ _&&_ (f .1) (e .1), ap₂ _&&_ (f .2) (e .2))))
 
-      pub unknownC : (0x10 ≤ getD frame at 0 → getD frame at 0 < 0x17 → ⊥) → {b w : Bool} {r : Tested} → r ≡ tested at b w → TestsC frame at items shape ends rule r
-      unknownC h s = rw s (onC (atC (getD frame at 0) refl) (omega arith) (λ c rest q. never (sym (none-of (getD frame at 0) h) ∙ q)))
+      pub unknownC : (0x10 ≤ getD frame at 0 → getD frame at 0 < 0x17 → ⊥) → {r : Tested} → r ≡ tested at false false → TestsC frame at items shape ends rule r
+      unknownC h s = rw s (record {
+        further = omega arith;
+        no-token = λ _. refl;
+        tests = λ c rest q. never (sym (atC (getD frame at 0) refl ∙ none-of (getD frame at 0) h) ∙ q);
+      })
         where
           not-in : (t k : ℕ) → (0x10 ≤ t → t < 0x17 → ⊥) → 0x10 ≤ k → k < 0x17 → eqb t k ≡ false
           not-in t k n l u = ne-eqb t k (λ e. n (omega arith) (omega arith))

@@ -3,9 +3,9 @@
 use mathlib.Core.Path.{_≡_}
 use mathlib.Core.Bool.{Bool, true, false, _&&_, cond}
 use mathlib.Core.List.{List, [], _∷_}
-use Prim.Native.Nat.{ℕ, zero, suc, _+_, _≤_}
+use Prim.Native.Nat.{ℕ, zero, suc, _+_, _≤_, _<_}
 use lib.IntN.{ℤ, pos}
-use lib.ListN.{getD, drop}
+use lib.ListN.{length, getD, drop}
 use Rattle.value.specs.Value.{Operation, Aggregate}
 use Rattle.range.specs.Ranges.{ranged, constantOf, hullOf, operatedOf, roundedOf, aggregatedOf}
 use Rattle.range.specs.declared.Range.{Range}
@@ -88,10 +88,11 @@ columnAt frame at items shape ends rule =
     let c = getD frame (at + 1) 0 in
     sized (at + 2) (permittedOf frame rule .columns i c) (ranged (columnIn shape ends items i c))
 
--- ---- the walks: of the tree that is read at a position
+-- ---- the walks: of the tree that is read at a position; and where no token of one stands there, that nothing is allowed and nothing fits
 
 pub record SizesE (frame : List ℕ) (at : ℕ) (items shape : List ℕ) (ends : List ℤ) (rule : Rule) (r : Sized) : Type 0 where
   pub further : at ≤ r .next
+  pub no-token : (at < length frame → 0x08 ≤ getD frame at 0) → r ≡ sized at false Beyond
   pub sizes : (e : Expr) (rest : List ℕ) → readE (openIn shape items) (drop at frame) ≡ Read.ok e rest
       → (drop (r .next) frame ≡ rest)
       × (r .allowed ≡ allowedE (permittedOf frame rule) e)
@@ -109,6 +110,7 @@ pub record SizesTwo (frame : List ℕ) (at : ℕ) (items shape : List ℕ) (ends
 
 pub record TestsC (frame : List ℕ) (at : ℕ) (items shape : List ℕ) (ends : List ℤ) (rule : Rule) (r : Tested) : Type 0 where
   pub further : at ≤ r .next
+  pub no-token : (at < length frame → 0x10 ≤ getD frame at 0 → getD frame at 0 < 0x17 → ⊥) → r ≡ tested at false false
   pub tests : (c : Cond) (rest : List ℕ) → readC (openIn shape items) (drop at frame) ≡ Read.ok c rest
       → (drop (r .next) frame ≡ rest)
       × (r .allowed ≡ allowedC (permittedOf frame rule) c)

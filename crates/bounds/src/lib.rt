@@ -12,7 +12,7 @@ ghost use Prim.Native.Nat.{_+_, _*_, _≤_};
 ghost use lib.ListN.{length, getD};
 ghost use Rattle.value.specs.Integer.{bytesZ};
 ghost use Rattle.value.specs.Value.{operationAt, aggregateAt};
-ghost use Rattle.range.specs.Ranges.{ranged, constantOf};
+ghost use Rattle.range.specs.Ranges.{ranged, constantOf, operatedOf};
 ghost use Rattle.meaning.specs.Bounds.{groupingColumn};
 ghost use Rattle.catalog.specs.Items.{relationsIn};
 ghost use Rattle.bounds.specs.Walk.{placesFrom, permittedOf, insideOf, columnIn, columnAt, operatedR, roundedR, hullR, chosenR, aggregatedR, isWithin, sized, tested, SizesE, SizesTwo, TestsC};
@@ -155,12 +155,23 @@ fn inside(rule: Rule) -> Rule
 }
 
 // Kind 0 is the sum, 1 the difference, any other the product.
+fn by_kind(kind: u8, a: Range, b: Range) -> Ranged
+    ensures { λ r. ⌜ r ≡ ranged (operatedOf (operationAt kind) a b) ⌝ }
+{
+    match kind {
+        0 => a.sum(b),
+        1 => a.difference(b),
+        _ => a.product(b),
+    }
+}
+
+// The same of two answers.
 fn operated(kind: u8, first: Ranged, second: Ranged) -> Ranged
     ensures { λ r. ⌜ r ≡ operatedR (operationAt kind) first second ⌝ }
 {
     match first {
         Ranged::Within(a) => match second {
-            Ranged::Within(b) => a.operated(kind, b),
+            Ranged::Within(b) => by_kind(kind, a, b),
             Ranged::Beyond => Ranged::Beyond,
         },
         Ranged::Beyond => Ranged::Beyond,
@@ -242,7 +253,8 @@ fn two(frame: &[u8], at: usize, items: Items, shape: &[u8], ends: &[i32], rule: 
     }
 }
 
-// `items` are the from items; `shape` and `ends` are what is known of the relations.
+// `items` are the from items; `shape` and `ends` are what is known of the relations. Bytes that begin with no expression are not allowed and
+// fit no range; what those give that break off inside one is open, as the checker reads every frame to its end first.
 // Refused: the operands of a difference swapped; the token for the kind of an aggregate.
 pub fn expression(
     frame: &[u8],

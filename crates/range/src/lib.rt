@@ -87,8 +87,7 @@ impl Range {
     }
 
     // Kind 0 is the sum, 1 the difference, any other the product.
-    // Refused: the least of self.lo alone; the results at self.lo twice.
-    pub fn operated(self, kind: u8, other: Range) -> Ranged
+    fn operated(self, kind: u8, other: Range) -> Ranged
         ensures { λ r. ⌜ r ≡ ranged (operatedOf (operationAt kind) self other) ⌝ }
     {
         let p = results(kind, self.lo, other);

@@ -10,8 +10,8 @@ enum-known-first c = search needs
 enum-known-second : tie.Need-enum-known-second
 enum-known-second c = search needs
 
-operated-requires : tie.Need-operated-requires
-operated-requires c κs = search needs
+by-kind-requires : tie.Need-by-kind-requires
+by-kind-requires c κs = search needs
 
 enum-told : tie.Need-enum-told
 enum-told c = search needs
@@ -21,7 +21,7 @@ enum-told-2 c = search needs
 
 returns : tie.Need-returns
 unfolding operatedR
-returns c = rw (c .before .before .before .before .before .first .given .1, c .before .before .second .given .1) (c .operated .ensures)
+returns c = rw (c .before .before .before .before .before .first .given .1, c .before .before .second .given .1) (c .by-kind .ensures)
 
 returns-2 : tie.Need-returns-2
 unfolding operatedR
@@ -37,7 +37,7 @@ operated-spec =
     (tie.spec
     enum-known-first
     enum-known-second
-    operated-requires
+    by-kind-requires
     enum-told
     enum-told-2
     returns
