@@ -30,7 +30,7 @@ pub fn word_at(words: &[u16], at: usize) -> u16
     if at < words.len() { words[at] } else { 0 }
 }
 
-// Refused: a word written at the end; none but past the end.
+// Refused: always 0; always 1.
 pub fn put_word(words: &mut [u16], at: usize, w: u16)
     ensures { λ _. ⌜ now (words .exit) ≡ set (now (words .entry)) at w ⌝ }
 {
@@ -41,18 +41,19 @@ pub fn put_word(words: &mut [u16], at: usize, w: u16)
 }
 
 // The same of the cells of an instance buffer.
-// Refused: a number written at the end; none but past the end.
+// Refused: always 0; always 1.
 pub fn put_short(shorts: &mut [i16], at: usize, n: i16)
     ensures { λ _. ⌜ now (shorts .exit) ≡ set (now (shorts .entry)) at n ⌝ }
 {
     if shorts.len() <= at {
         return;
     }
-    shorts[at] = n;
+    let number = n;
+    shorts[at] = number;
 }
 
 // The same of the values of an answer.
-// Refused: a number written at the end; none but past the end.
+// Refused: always 0; always 1.
 pub fn put_long(longs: &mut [u64], at: usize, n: u64)
     ensures { λ _. ⌜ now (longs .exit) ≡ set (now (longs .entry)) at n ⌝ }
 {

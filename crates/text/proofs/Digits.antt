@@ -11,8 +11,7 @@ use lib.Seq.{drop-cons}
 use borrow.Author.Tests.{lt-ltb, le-ltb, ne-eqb, ltb-true, ltb-false}
 use Rattle.value.proofs.Places.{from-byte}
 use Rattle.text.specs.Text.{hexValue, hexDigit}
-use Rattle.text.specs.Pair.{pairOf}
-use Rattle.text.specs.declared.HexPair.the-variants.{Byte, Wrong}
+use Rattle.text.specs.Pair.{PairRead, pairOf}
 
 module _ (c : ℕ) where
   pub digit-low : c < 48 → hexValue c ≡ 16
@@ -84,7 +83,7 @@ module _ (text : List ℕ) (at : ℕ) where
       let l : suc at < length text = omega arith in
       from-byte text at k ∙ ap (λ (r : List ℕ). getD text at 0 ∷ r) (rw (add-one, add-two, drop-cons text (suc at) 0))
 
-pub pair-short : (text : List ℕ) → length text < 2 → pairOf text ≡ Wrong
+pub pair-short : (text : List ℕ) → length text < 2 → pairOf text ≡ PairRead.refused 2
 unfolding pairOf
 pair-short [] h = refl
 pair-short (a ∷ []) h = refl
@@ -94,21 +93,21 @@ module _ (text : List ℕ) (at : ℕ) (long : at + 1 < length text) where
   pair-two : pairOf (drop at text) ≡ pairOf (getD text at 0 ∷ getD text (at + 1) 0 ∷ drop (at + 2) text)
   pair-two = ap pairOf (drop-two text at long)
 
-  pub pair-high : 16 ≤ hexValue (getD text at 0) → pairOf (drop at text) ≡ Wrong
+  pub pair-high : 16 ≤ hexValue (getD text at 0) → pairOf (drop at text) ≡ PairRead.refused 2
   unfolding pairOf
   pair-high h = pair-two ∙ simp (le-ltb _ 16 h)
 
-  pub pair-low : hexValue (getD text at 0) < 16 → 16 ≤ hexValue (getD text (at + 1) 0) → pairOf (drop at text) ≡ Wrong
+  pub pair-low : hexValue (getD text at 0) < 16 → 16 ≤ hexValue (getD text (at + 1) 0) → pairOf (drop at text) ≡ PairRead.refused 2
   unfolding pairOf
   pair-low h k = pair-two ∙ simp (lt-ltb _ 16 h, le-ltb _ 16 k)
 
   pub pair-both : hexValue (getD text at 0) < 16 → hexValue (getD text (at + 1) 0) < 16
-      → pairOf (drop at text) ≡ Byte (16 * hexValue (getD text at 0) + hexValue (getD text (at + 1) 0))
+      → pairOf (drop at text) ≡ PairRead.byte (16 * hexValue (getD text at 0) + hexValue (getD text (at + 1) 0))
   unfolding pairOf
   pair-both h k = pair-two ∙ simp (lt-ltb _ 16 h, lt-ltb _ 16 k)
 
-pub pair-of-hex : (b : ℕ) (rest : List ℕ) → b < 256 → pairOf (hexDigit (b / 16) ∷ hexDigit (b % 16) ∷ rest) ≡ Byte b
+pub pair-of-hex : (b : ℕ) (rest : List ℕ) → b < 256 → pairOf (hexDigit (b / 16) ∷ hexDigit (b % 16) ∷ rest) ≡ PairRead.byte b
 unfolding pairOf
 pair-of-hex b rest h =
     rw (digit-of-hex (b / 16) (omega arith), digit-of-hex (b % 16) (omega arith), lt-ltb (b / 16) 16 (omega arith), lt-ltb (b % 16) 16 (omega arith))
-    (ap Byte (omega arith))
+    (ap PairRead.byte (omega arith))

@@ -13,10 +13,9 @@ use lib.Seq.{take-set-le, take-suc-set, drop-set-add, drop-set-lt, take-add, dro
 use borrow.Author.Tests.{eq-eqb, ne-eqb}
 use Rattle.value.proofs.Places.{from-byte}
 use Rattle.text.specs.Text.{Lines, frames, refused, between, lineAfter, run, ended, linesOf}
-use Rattle.text.specs.Pair.{pairOf}
+use Rattle.text.specs.Pair.{PairRead, pairOf}
 use Rattle.text.specs.Answers.{pack, Decoded, Blank}
 use Rattle.text.specs.declared.Frames.{Frames}
-use Rattle.text.specs.declared.HexPair.the-variants.{Byte, Wrong}
 use Rattle.text.proofs.Runs.{pair-long, run-byte, run-close, run-no-pair, run-long, run-empty}
 
 pack-snoc : (done : List (List ℕ)) (f : List ℕ) → pack (done ++ f ∷ []) ≡ pack done ++ length f ∷ f
@@ -99,11 +98,11 @@ module _ {text : List ℕ} {r : Frames} {at size : ℕ} (h : Here text r at size
   other : at < length text → (getD text at 0 ≡ 10 → ⊥) → eqb (getD (drop at text) 0 0) 10 ≡ false
   other k c = rw (from-byte text at k) (ne-eqb _ 10 c)
 
-  pub no-pair : at < length text → (getD text at 0 ≡ 10 → ⊥) → pairOf (drop at text) ≡ Wrong → Decoded (linesOf text) r
+  pub no-pair : at < length text → (getD text at 0 ≡ 10 → ⊥) → pairOf (drop at text) ≡ PairRead.refused 2 → Decoded (linesOf text) r
   unfolding linesOf
   no-pair k c e = refuses (ap ended (h .left) ∙ run-no-pair (h .done) (h .frame) (drop at text) (other k c) (simp length-drop (omega arith)) e)
 
-  pub one-byte : (v : ℕ) → length text ≤ 8192 → at < length text → (getD text at 0 ≡ 10 → ⊥) → size < 120 → pairOf (drop at text) ≡ Byte v
+  pub one-byte : (v : ℕ) → length text ≤ 8192 → at < length text → (getD text at 0 ≡ 10 → ⊥) → size < 120 → pairOf (drop at text) ≡ PairRead.byte v
       → Here text (record { bytes = set (r .bytes) (r .used + 1 + size) v; used = r .used; number = r .number; line = r .line }) (at + 2) (size + 1)
   one-byte v s k c few e =
       let long : 2 ≤ length (drop at text) = pair-long (drop at text) e in

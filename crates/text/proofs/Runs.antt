@@ -9,8 +9,7 @@ use lib.ListN.{length, getD, drop, length-append}
 use borrow.Author.Tests.{lt-ltb, le-ltb}
 use Rattle.value.specs.Bag.{All}
 use Rattle.text.specs.Text.{refused, hexValue, between, half, wrong, lineAfter, closed, opened, step, run, ended, hexDigit, hex, line, textOf, Frame}
-use Rattle.text.specs.Pair.{pairOf}
-use Rattle.text.specs.declared.HexPair.the-variants.{Byte, Wrong}
+use Rattle.text.specs.Pair.{PairRead, pairOf}
 use Rattle.text.proofs.Digits.{hex-no-lf, pair-of-hex}
 
 -- a case that cannot be
@@ -23,19 +22,19 @@ unfolding run step
 run-wrong k [] = refl
 run-wrong k (c ∷ cs) = run-wrong k cs
 
-byte-tests : (t u : Bool) {w v : ℕ} → cond t (cond u (Byte w) Wrong) Wrong ≡ Byte v → (t ≡ true) × (u ≡ true) × (w ≡ v)
+byte-tests : (t u : Bool) {w v : ℕ} → cond t (cond u (PairRead.byte w) (PairRead.refused 2)) (PairRead.refused 2) ≡ PairRead.byte v → (t ≡ true) × (u ≡ true) × (w ≡ v)
 byte-tests true true e = (refl, refl, cc)
 byte-tests true false e = no cc
 byte-tests false u e = no cc
 
-pub pair-long : (cs : List ℕ) {v : ℕ} → pairOf cs ≡ Byte v → 2 ≤ length cs
+pub pair-long : (cs : List ℕ) {v : ℕ} → pairOf cs ≡ PairRead.byte v → 2 ≤ length cs
 unfolding pairOf
 pair-long [] e = no cc
 pair-long (a ∷ []) e = no cc
 pair-long (a ∷ b ∷ rest) e = omega arith
 
 module _ (done : List (List ℕ)) (frame : List ℕ) where
-  pub run-byte : (cs : List ℕ) (v : ℕ) → eqb (getD cs 0 0) 10 ≡ false → length frame < 120 → pairOf cs ≡ Byte v
+  pub run-byte : (cs : List ℕ) (v : ℕ) → eqb (getD cs 0 0) 10 ≡ false → length frame < 120 → pairOf cs ≡ PairRead.byte v
       → run (between done frame) cs ≡ run (between done (frame ++ v ∷ [])) (drop 2 cs)
   unfolding pairOf run step
   run-byte [] v n few e = no cc
@@ -63,7 +62,7 @@ module _ (done : List (List ℕ)) (frame : List ℕ) where
       go false u = refl
 
   -- a first digit, and then a character that makes no pair with it
-  pair-ends : (t u s : Bool) (d b w : ℕ) (rest : List ℕ) → ltb (hexValue b) 16 ≡ u → cond t (cond u (Byte w) Wrong) Wrong ≡ Wrong
+  pair-ends : (t u s : Bool) (d b w : ℕ) (rest : List ℕ) → ltb (hexValue b) 16 ≡ u → cond t (cond u (PairRead.byte w) (PairRead.refused 2)) (PairRead.refused 2) ≡ PairRead.refused 2
       → ended (run (step (cond t (cond s (half done frame d) (wrong (lineAfter done))) (wrong (lineAfter done))) b) rest) ≡ refused 2 (lineAfter done)
   unfolding step
   pair-ends true true s d b w rest p e = no cc
@@ -71,7 +70,7 @@ module _ (done : List (List ℕ)) (frame : List ℕ) where
   pair-ends true false false d b w rest p e = ap ended (run-wrong (lineAfter done) rest)
   pair-ends false u s d b w rest p e = ap ended (run-wrong (lineAfter done) rest)
 
-  pub run-no-pair : (cs : List ℕ) → eqb (getD cs 0 0) 10 ≡ false → 0 < length cs → pairOf cs ≡ Wrong
+  pub run-no-pair : (cs : List ℕ) → eqb (getD cs 0 0) 10 ≡ false → 0 < length cs → pairOf cs ≡ PairRead.refused 2
       → ended (run (between done frame) cs) ≡ refused 2 (lineAfter done)
   unfolding pairOf run step
   run-no-pair [] n h e = absurd (omega arith)

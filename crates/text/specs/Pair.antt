@@ -1,4 +1,4 @@
--- The byte that two digits make, at the front of a text. Assumes nothing: this is a definition.
+-- The byte that two digits make, at the front of a text. Assumes nothing: these are definitions.
 use mathlib.Core.Bool.{cond}
 use mathlib.Core.List.{List, [], _∷_}
 use Prim.Native.Nat.{ℕ, _+_, _*_}
@@ -7,7 +7,19 @@ use Rattle.text.specs.Text.{hexValue}
 use Rattle.text.specs.declared.HexPair.{HexPair}
 use Rattle.text.specs.declared.HexPair.the-variants.{Byte, Wrong}
 
-unfoldable pub pairOf : List ℕ → HexPair
-pairOf [] = Wrong
-pairOf (a ∷ []) = Wrong
-pairOf (a ∷ b ∷ rest) = cond (ltb (hexValue a) 16) (cond (ltb (hexValue b) 16) (Byte (16 * hexValue a + hexValue b)) Wrong) Wrong
+-- the byte, or the number of the refusal
+pub data PairRead : Type 0 where
+  byte : ℕ → PairRead
+  refused : ℕ → PairRead
+
+-- "2 (line), digits, pairs .. wrong"
+unfoldable pub pairOf : List ℕ → PairRead
+pairOf [] = PairRead.refused 2
+pairOf (a ∷ []) = PairRead.refused 2
+pairOf (a ∷ b ∷ rest) =
+    cond (ltb (hexValue a) 16) (cond (ltb (hexValue b) 16) (PairRead.byte (16 * hexValue a + hexValue b)) (PairRead.refused 2)) (PairRead.refused 2)
+
+-- what each answer of the code says
+abbrev pub pairTold : HexPair → PairRead
+pairTold (Byte b) = PairRead.byte b
+pairTold Wrong = PairRead.refused 2

@@ -3,13 +3,14 @@ ghost use mathlib.Core.Path.{_≡_};
 ghost use Prim.Native.Nat.{_≤_, _<_};
 ghost use lib.ListN.{length, drop};
 ghost use Rattle.text.specs.Text.{hexValue, hexDigit, linesOf, framesOf};
-ghost use Rattle.text.specs.Pair.{pairOf};
+ghost use Rattle.text.specs.Pair.{pairOf, pairTold};
 ghost use Rattle.text.specs.Answers.{Decoded, Blank, Written};
 
 // Room for the frames of 8,192 bytes of text, each behind its length: the shortest line has three bytes and takes two.
 pub const ROOM: usize = 5462;
 
-// Number 0: the frames, in the first `used` bytes. Any other number: a refusal.
+// Number 0: the frames, in the first `used` bytes; the line is open. Any other number: a refusal at that line; what was read until then
+// is open, since nobody reads on.
 pub struct Frames {
     pub bytes: [u8; ROOM],
     pub used: usize,
@@ -37,7 +38,7 @@ fn digit_of(c: u8) -> u8
 // The byte whose two digits stand at `at`.
 fn pair_at(text: &[u8], at: usize) -> HexPair
     requires { ⌜ at < length (now text) ⌝ }
-    ensures { λ r. ⌜ r ≡ pairOf (drop at (now (text .entry))) ⌝ }
+    ensures { λ r. ⌜ pairTold r ≡ pairOf (drop at (now (text .entry))) ⌝ }
 {
     if text.len() - at < 2 {
         return HexPair::Wrong;

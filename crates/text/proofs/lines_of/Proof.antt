@@ -1,7 +1,9 @@
 -- `text::lines_of` meets its contract. Assumes nothing.
+use mathlib.Core.Path.{sym, ap, _∙_}
 use Prim.Native.Nat.{_-_}
 use native.Mathlib.Omega.{arith}
 use lib.ListN.{length}
+use Rattle.text.specs.Pair.{pairTold}
 use Rattle.text.proofs.Packed.{Here, begin, empty-line, long-line, no-pair, one-byte, close-line, good-end, bad-end}
 use Rattle.text.proofs.lines_of.Statement.{statement}
 use Rattle.text.proofs.lines_of.Tie as tie
@@ -61,7 +63,8 @@ enum-told : tie.Need-enum-told Inv-loop μ-loop
 enum-told c = omega arith
 
 returns-3 : tie.Need-returns-3 Inv-loop μ-loop
-returns-3 c = no-pair (c .before .before .before .before .before .before .before .loop .inv) (c .before .before .before .before .before .before .loop-test .taken) (c .before .before .before .before .if1 .left) (cc)
+returns-3 c = no-pair (c .before .before .before .before .before .before .before .loop .inv) (c .before .before .before .before .before .before .loop-test .taken) (c .before .before .before .before .if1 .left)
+    (sym (c .before .before .pair-at .ensures) ∙ ap pairTold (c .enum-told .given .1))
 
 add-place : tie.Need-add-place Inv-loop μ-loop
 add-place c = omega arith
@@ -82,7 +85,8 @@ loop-less-2 : tie.Need-loop-less-2 Inv-loop μ-loop
 loop-less-2 c = omega arith
 
 loop-again-2 : tie.Need-loop-again-2 Inv-loop μ-loop
-loop-again-2 c = one-byte (c .before .before .before .before .before .before .before .before .loop .inv) _ (c .before .before .before .before .before .before .before .before .before .before .before .pre) (c .before .before .before .before .before .before .before .loop-test .taken) (c .before .before .before .before .before .if1 .left) (omega arith) (cc)
+loop-again-2 c = one-byte (c .before .before .before .before .before .before .before .before .loop .inv) _ (c .before .before .before .before .before .before .before .before .before .before .before .pre) (c .before .before .before .before .before .before .before .loop-test .taken) (c .before .before .before .before .before .if1 .left) (omega arith)
+    (sym (c .before .before .before .pair-at .ensures) ∙ ap pairTold (c .before .byte .given .1))
 
 returns-4 : tie.Need-returns-4 Inv-loop μ-loop
 returns-4 c = good-end (c .before .before .loop .inv) (c .before .loop-test .left) (c .if4 .taken)

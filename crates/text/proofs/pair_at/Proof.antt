@@ -4,7 +4,7 @@ use mathlib.Core.Path.{sym, ap₂, _∙_}
 use Prim.Native.Nat.{ℕ, _+_, _*_}
 use lib.ListN.{length-drop}
 use borrow.Author.Needs.{needs}
-use Rattle.text.specs.declared.HexPair.the-variants.{Byte}
+use Rattle.text.specs.Pair.{PairRead}
 use Rattle.text.proofs.Digits.{pair-short, pair-high, pair-low, pair-both}
 use Rattle.text.proofs.pair_at.Statement.{statement}
 use Rattle.text.proofs.pair_at.Tie as tie
@@ -44,7 +44,7 @@ add-t11 c = search needs
 
 returns-4 : tie.Need-returns-4
 returns-4 c =
-    ap₂ (λ (h l : ℕ). Byte (16 * h + l)) (c .before .before .before .before .digit-of .ensures) (c .before .before .digit-of2 .ensures)
+    ap₂ (λ (h l : ℕ). PairRead.byte (16 * h + l)) (c .before .before .before .before .digit-of .ensures) (c .before .before .digit-of2 .ensures)
     ∙ sym (pair-both (c .before .before .before .before .before .before .before .before .args .text .now) (c .before .before .before .before .before .before .before .before .args .at) (omega arith) (omega arith) (omega arith))
 
 pub pair-at-spec : {M : Type 1} → statement M
