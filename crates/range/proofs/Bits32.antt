@@ -1,5 +1,5 @@
 -- When 32 bits hold a range. Assumes nothing.
-use mathlib.Core.Path.{_≡_, sym}
+use mathlib.Core.Path.{_≡_, refl, sym, ap, _∙_}
 use mathlib.Core.Bool.{true, false}
 use Prim.Native.Nat.{ℕ}
 use native.Mathlib.Omega.{arith}
@@ -11,8 +11,9 @@ use Rattle.value.proofs.Decides.{by-test, and-parts}
 use Rattle.value.proofs.Linear.{ints}
 use Rattle.value.proofs.Fits.{fits-in32, in32-fits}
 use Rattle.value.proofs.Values.{between-wider}
-use Rattle.range.specs.Ranges.{Inside, within32, ranged}
+use Rattle.range.specs.Ranges.{Inside, within32, Fitted, fitted, rangedTold, ranged}
 use Rattle.range.specs.declared.Range.{Range}
+use Rattle.range.specs.declared.Ranged.{Ranged}
 use Rattle.range.specs.declared.Ranged.the-variants.{Within, Beyond}
 
 module _ (r : Range) where
@@ -31,6 +32,22 @@ module _ (r : Range) where
   -- a range of the code
   pub ranged-fits : SFits w32 (r .lo) → SFits w32 (r .hi) → ranged r ≡ Within r
   ranged-fits l h = ranged-within (fits-in32 l) (fits-in32 h)
+
+-- ---- what the answers say
+
+pub ranged-told : (x : Range) → rangedTold (ranged x) ≡ fitted x
+unfolding ranged fitted
+ranged-told x = by-test (within32 x) (λ t. rw t) (λ t. rw t)
+
+same-told : (a b : Ranged) → rangedTold a ≡ rangedTold b → a ≡ b
+same-told (Within r) (Within q) e = let i : r ≡ q = cc in ap Within i
+same-told (Within r) Beyond e = let z : _≡_ {A = ℕ} 0 1 = cc in absurd (omega arith)
+same-told Beyond (Within q) e = let z : _≡_ {A = ℕ} 0 1 = cc in absurd (omega arith)
+same-told Beyond Beyond e = refl
+
+-- an answer that says it is that one
+pub told-ranged : {a : Ranged} (x : Range) → rangedTold a ≡ fitted x → a ≡ ranged x
+told-ranged {a} x e = same-told a (ranged x) (e ∙ sym (ranged-told x))
 
 -- a range that is answered is the one that was asked for, and 32 bits hold it
 pub answered : {r q : Range} → ranged r ≡ Within q → (q ≡ r) × (within32 r ≡ true)

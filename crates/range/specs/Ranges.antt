@@ -19,7 +19,21 @@ Inside r v = Between (r .lo) (r .hi) v
 abbrev pub within32 : Range → Bool
 within32 r = in32 (r .lo) && in32 (r .hi)
 
--- the range itself if 32 bits hold it
+-- the range, or the number of the refusal
+pub data Fitted : Type 0 where
+  fits : Range → Fitted
+  refused : ℕ → Fitted
+
+-- the range itself if 32 bits hold it, else "9, range"
+unfoldable pub fitted : Range → Fitted
+fitted r = cond (within32 r) (Fitted.fits r) (Fitted.refused 9)
+
+-- what each answer of the code says
+abbrev pub rangedTold : Ranged → Fitted
+rangedTold (Within r) = Fitted.fits r
+rangedTold Beyond = Fitted.refused 9
+
+-- the answer of the code that says it
 unfoldable pub ranged : Range → Ranged
 ranged r = cond (within32 r) (Within r) Beyond
 

@@ -2,7 +2,7 @@
 use value::integer;
 ghost use mathlib.Core.Path.{_≡_};
 ghost use Rattle.value.specs.Value.{Operation, operationAt, aggregateAt, applyZ};
-ghost use Rattle.range.specs.Ranges.{constantOf, columnOf, hullOf, operatedOf, roundedOf, scaledOf, countOf, aggregatedOf, ranged, Results};
+ghost use Rattle.range.specs.Ranges.{constantOf, columnOf, hullOf, operatedOf, roundedOf, scaledOf, countOf, aggregatedOf, fitted, rangedTold, Results};
 
 // The whole numbers from lo to hi.
 pub struct Range {
@@ -62,7 +62,7 @@ impl Range {
     // The range from lo to hi, if 32 bits hold both.
     // Refused: from -2^31 + 1; lo for hi.
     pub fn checked(lo: i64, hi: i64) -> Ranged
-        ensures { λ r. ⌜ r ≡ ranged (columnOf lo hi) ⌝ }
+        ensures { λ r. ⌜ rangedTold r ≡ fitted (columnOf lo hi) ⌝ }
     {
         if integer::between(lo, Range::LOW, Range::HIGH) {
             if integer::between(hi, Range::LOW, Range::HIGH) {
@@ -88,7 +88,7 @@ impl Range {
 
     // Kind 0 is the sum, 1 the difference, any other the product.
     fn operated(self, kind: u8, other: Range) -> Ranged
-        ensures { λ r. ⌜ r ≡ ranged (operatedOf (operationAt kind) self other) ⌝ }
+        ensures { λ r. ⌜ rangedTold r ≡ fitted (operatedOf (operationAt kind) self other) ⌝ }
     {
         let p = results(kind, self.lo, other);
         let q = results(kind, self.hi, other);
@@ -100,21 +100,21 @@ impl Range {
 
     // Refused: the product; of self and self.
     pub fn sum(self, other: Range) -> Ranged
-        ensures { λ r. ⌜ r ≡ ranged (operatedOf Operation.sum self other) ⌝ }
+        ensures { λ r. ⌜ rangedTold r ≡ fitted (operatedOf Operation.sum self other) ⌝ }
     {
         self.operated(0, other)
     }
 
     // Refused: the sum; of self and self.
     pub fn difference(self, other: Range) -> Ranged
-        ensures { λ r. ⌜ r ≡ ranged (operatedOf Operation.difference self other) ⌝ }
+        ensures { λ r. ⌜ rangedTold r ≡ fitted (operatedOf Operation.difference self other) ⌝ }
     {
         self.operated(1, other)
     }
 
     // Refused: the difference; of self and self.
     pub fn product(self, other: Range) -> Ranged
-        ensures { λ r. ⌜ r ≡ ranged (operatedOf Operation.product self other) ⌝ }
+        ensures { λ r. ⌜ rangedTold r ≡ fitted (operatedOf Operation.product self other) ⌝ }
     {
         self.operated(2, other)
     }
@@ -122,7 +122,7 @@ impl Range {
     // Both ends rounded to multiples of m.
     // Refused: lo for hi; by 1.
     pub fn rounded(self, m: u16) -> Ranged
-        ensures { λ r. ⌜ r ≡ ranged (roundedOf m self) ⌝ }
+        ensures { λ r. ⌜ rangedTold r ≡ fitted (roundedOf m self) ⌝ }
     {
         Range::checked(integer::round(self.lo, m), integer::round(self.hi, m))
     }
@@ -130,7 +130,7 @@ impl Range {
     // The sums of at most as many values as the row bound says.
     // Refused: hi for lo; by 1.
     pub fn scaled(self, bound: u32) -> Ranged
-        ensures { λ r. ⌜ r ≡ ranged (scaledOf bound self) ⌝ }
+        ensures { λ r. ⌜ rangedTold r ≡ fitted (scaledOf bound self) ⌝ }
     {
         let lo = integer::times(bound, integer::lesser(self.lo, 0));
         let hi = integer::times(bound, integer::greater(self.hi, 0));
@@ -140,7 +140,7 @@ impl Range {
     // The numbers of rows up to the row bound.
     // Refused: one row too many; from 1.
     pub fn count(bound: u32) -> Ranged
-        ensures { λ r. ⌜ r ≡ ranged (countOf bound) ⌝ }
+        ensures { λ r. ⌜ rangedTold r ≡ fitted (countOf bound) ⌝ }
     {
         Range::checked(0, integer::offset(0, bound))
     }
@@ -148,7 +148,7 @@ impl Range {
     // Kind 0 is count, 1 sum, 2 minimum, any other maximum; self is the range of the argument.
     // Refused: no rows; one row.
     pub fn aggregated(self, kind: u8, bound: u32) -> Ranged
-        ensures { λ r. ⌜ r ≡ ranged (aggregatedOf (aggregateAt kind) bound self) ⌝ }
+        ensures { λ r. ⌜ rangedTold r ≡ fitted (aggregatedOf (aggregateAt kind) bound self) ⌝ }
     {
         match kind {
             0 => Range::count(bound),

@@ -1,6 +1,7 @@
 -- `bounds::aggregated` meets its contract. Assumes nothing.
 use borrow.Author.Needs.{needs}
 use Rattle.bounds.specs.Walk.{aggregatedR}
+use Rattle.range.proofs.Bits32.{told-ranged}
 use Rattle.bounds.proofs.aggregated.Statement.{statement}
 use Rattle.bounds.proofs.aggregated.Tie as tie
 
@@ -21,7 +22,9 @@ sizing-requires-2 c κs = search needs
 
 returns : tie.Need-returns
 unfolding aggregatedR
-returns c = rw (c .before .before .before .range .given .1, c .sizing .ensures, c .before .aggregated .ensures)
+returns c =
+    let e = told-ranged {a = c .before .aggregated .result} _ (c .before .aggregated .ensures) in
+    rw (c .before .before .before .range .given .1, c .sizing .ensures, e)
 
 returns-2 : tie.Need-returns-2
 unfolding aggregatedR

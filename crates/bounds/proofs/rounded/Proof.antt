@@ -1,6 +1,7 @@
 -- `bounds::rounded` meets its contract. Assumes nothing.
 use borrow.Author.Needs.{needs}
 use Rattle.bounds.specs.Walk.{roundedR}
+use Rattle.range.proofs.Bits32.{told-ranged}
 use Rattle.bounds.proofs.rounded.Statement.{statement}
 use Rattle.bounds.proofs.rounded.Tie as tie
 
@@ -18,7 +19,9 @@ enum-told c = search needs
 
 returns : tie.Need-returns
 unfolding roundedR
-returns c = rw (c .before .before .before .range .given .1, c .sizing .ensures, c .before .rounded .ensures)
+returns c =
+    let e = told-ranged {a = c .before .rounded .result} _ (c .before .rounded .ensures) in
+    rw (c .before .before .before .range .given .1, c .sizing .ensures, e)
 
 returns-2 : tie.Need-returns-2
 unfolding roundedR

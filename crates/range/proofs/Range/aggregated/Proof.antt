@@ -1,9 +1,10 @@
 -- `range::Range::aggregated` meets its contract. Assumes nothing.
-use mathlib.Core.Path.{sym}
+use mathlib.Core.Path.{sym, ap, _∙_}
 use mir.Syntax.{w32}
 use mir.Val.{SFits}
 use borrow.Author.Needs.{needs}
-use Rattle.range.proofs.Bits32.{ranged-fits}
+use Rattle.range.specs.Ranges.{rangedTold}
+use Rattle.range.proofs.Bits32.{ranged-fits, ranged-told}
 use Rattle.range.proofs.Soundness.{aggregated-else}
 use Rattle.range.proofs.Range.aggregated.Statement.{statement}
 use Rattle.range.proofs.Range.aggregated.Tie as tie
@@ -23,7 +24,7 @@ returns-2 c = rw (c .before .match .keys2) (c .scaled .ensures)
 returns-3 : tie.Need-returns-3
 returns-3 c = let a : SFits w32 (c .before .args .self .lo) = search needs in
     let b : SFits w32 (c .before .args .self .hi) = search needs in
-    rw (aggregated-else (c .before .args .kind) (c .before .args .bound) (c .before .args .self) (c .match .rest .0 .1) (c .match .rest .1)) (sym (ranged-fits (c .before .args .self) a b))
+    rw (aggregated-else (c .before .args .kind) (c .before .args .bound) (c .before .args .self) (c .match .rest .0 .1) (c .match .rest .1)) (sym (ap rangedTold (ranged-fits (c .before .args .self) a b)) ∙ ranged-told _)
 
 pub aggregated-spec : {M : Type 1} → statement M
 aggregated-spec = tie.close (tie.spec count-requires scaled-requires returns returns-2 returns-3)

@@ -1,12 +1,13 @@
 -- `range::Range::checked` meets its contract. Assumes nothing.
-use mathlib.Core.Path.{_≡_, sym, _∙_}
+use mathlib.Core.Path.{_≡_, sym, ap, _∙_}
 use mir.Syntax.{w32}
 use mir.Facts.{toZ-ofZ}
 use mathlib.Core.Bool.{true}
 use borrow.Author.Needs.{needs}
 use Rattle.value.proofs.Fits.{back}
 use Rattle.value.specs.Integer.{in32}
-use Rattle.range.proofs.Bits32.{ranged-within, ranged-low, ranged-high}
+use Rattle.range.specs.Ranges.{rangedTold}
+use Rattle.range.proofs.Bits32.{ranged-within, ranged-low, ranged-high, ranged-told}
 use Rattle.range.proofs.Range.checked.Statement.{statement}
 use Rattle.range.proofs.Range.checked.Tie as tie
 
@@ -42,13 +43,17 @@ returns c = let t = c .before .before in
       toZ-ofZ (s .fits .hi),
       l,
       h,
-    ) (sym (ranged-within _ l h))
+    ) (sym (ap rangedTold (ranged-within _ l h)) ∙ ranged-told _)
 
 returns-2 : tie.Need-returns-2
-returns-2 c = sym (ranged-high _ (low-in (c .before .before)) (simp (toZ-ofZ, c .before .before .before .before .fits .hi) at (sym (c .before .between2 .ensures) ∙ c .if2 .left)))
+returns-2 c =
+    let h = simp (toZ-ofZ, c .before .before .before .before .fits .hi) at (sym (c .before .between2 .ensures) ∙ c .if2 .left) in
+    sym (ap rangedTold (ranged-high _ (low-in (c .before .before)) h)) ∙ ranged-told _
 
 returns-3 : tie.Need-returns-3
-returns-3 c = sym (ranged-low _ (simp (toZ-ofZ, c .before .before .fits .lo) at (sym (c .before .between .ensures) ∙ c .if1 .left)))
+returns-3 c =
+    let h = simp (toZ-ofZ, c .before .before .fits .lo) at (sym (c .before .between .ensures) ∙ c .if1 .left) in
+    sym (ap rangedTold (ranged-low _ h)) ∙ ranged-told _
 
 pub checked-spec : {M : Type 1} → statement M
 checked-spec =
