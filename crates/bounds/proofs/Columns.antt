@@ -18,23 +18,23 @@ use Rattle.meaning.specs.Syntax.{Place}
 use Rattle.meaning.specs.Bounds.{anyColumn, groupingColumn}
 use Rattle.meaning.proofs.ListSteps.{map-at}
 use Rattle.catalog.specs.Arrays.{rangesIn, rangeAt, itemsIn}
-use Rattle.bounds.specs.Walk.{placesFrom, columnIn, permittedOf}
+use Rattle.bounds.specs.Walk.{placesFrom, itemRange, permittedOf}
 use Rattle.bounds.specs.declared.Rule.{Rule}
 
 -- ---- columns
 
 module _ (shape : List ℕ) (ends : List ℤ) (items : List ℕ) (i c : ℕ) where
   abbrev Answers : Range → Type 0
-  Answers r = Within r ≡ ranged (columnIn shape ends items i c)
+  Answers r = Within r ≡ ranged (itemRange shape ends items i c)
 
   pub no-item : length items ≤ i → Answers (constantOf (pos 0))
-  unfolding columnIn ranged
+  unfolding itemRange ranged
   no-item h =
       let k : length (itemsIn shape ends items) ≤ i = rw (length-map items (rangesIn shape ends)) h in
       rw (List·getD-eq-default (itemsIn shape ends items) [] k)
 
   pub some-item : i < length items → {r : Range} → SFits w32 (r .lo) → SFits w32 (r .hi) → r ≡ rangeAt shape ends (getD items i 0) c → Answers r
-  unfolding columnIn
+  unfolding itemRange
   some-item h {r} l u e =
       let there = ap (λ (rs : List Range). getD rs c (constantOf (pos 0))) (map-at (rangesIn shape ends) items i 0 [] h) in
       sym (ranged-fits r l u) ∙ ap (λ (q : Range). ranged q) (e ∙ sym there)

@@ -7,14 +7,14 @@ use Prim.Native.Nat.{ℕ}
 use lib.IntN.{ℤ, pos, negsuc}
 use Rattle.value.specs.Integer.{minZ, maxZ}
 use Rattle.value.specs.Value.{Operation, Aggregate}
-use Rattle.range.specs.Ranges.{constantOf, columnOf}
+use Rattle.range.specs.Ranges.{constantOf, rangeFrom}
 use Rattle.range.specs.declared.Ranged.{Ranged}
 use Rattle.range.specs.declared.Ranged.the-variants.{Within, Beyond}
 use Rattle.meaning.specs.Syntax.{Expr}
 use Rattle.meaning.specs.Bounds.{allowedE}
 use Rattle.catalog.specs.Arrays.{rangesFrom}
 use Rattle.catalog.specs.Items.{openRangesIn}
-use Rattle.bounds.specs.Walk.{placesFrom, permittedOf, columnIn, rangedE}
+use Rattle.bounds.specs.Walk.{placesFrom, permittedOf, itemRange, rangedE}
 
 abbrev shape : List ℕ
 shape = 1 ∷ 2 ∷ 4 ∷ 1 ∷ []
@@ -36,18 +36,18 @@ cube = Expr.operation Operation.product large (Expr.operation Operation.product 
 
 -- ---- ranges
 
-there : columnIn shape ends (0 ∷ []) 0 1 ≡ columnOf (negsuc 4) (pos 5)
-unfolding columnIn rangesFrom
+there : itemRange shape ends (0 ∷ []) 0 1 ≡ rangeFrom (negsuc 4) (pos 5)
+unfolding itemRange rangesFrom
 there = refl
 
-not-there : columnIn shape ends (0 ∷ []) 0 2 ≡ constantOf (pos 0)
-unfolding columnIn rangesFrom
+not-there : itemRange shape ends (0 ∷ []) 0 2 ≡ constantOf (pos 0)
+unfolding itemRange rangesFrom
 not-there = refl
 
 abbrev answer : Expr → Ranged
 answer e = rangedE (openRangesIn shape ends (0 ∷ []) 4) e
 
-of-a-sum : answer (total (column 1)) ≡ Within (columnOf (negsuc 19) (pos 20))
+of-a-sum : answer (total (column 1)) ≡ Within (rangeFrom (negsuc 19) (pos 20))
 unfolding rangedE rangesFrom minZ maxZ
 of-a-sum = refl
 

@@ -14,7 +14,7 @@ use Rattle.range.specs.declared.Ranged.the-variants.{Within, Beyond}
 use Rattle.meaning.specs.Syntax.{Expr, Cond}
 use Rattle.meaning.specs.Bounds.{OpenRanges, range, withinE, withinC}
 use Rattle.catalog.specs.Items.{openRangesIn}
-use Rattle.bounds.specs.Walk.{columnIn, rangedE, operatedR, roundedR, hullR, chosenR, aggregatedR, isWithin}
+use Rattle.bounds.specs.Walk.{itemRange, rangedE, operatedR, roundedR, hullR, chosenR, aggregatedR, isWithin}
 
 -- the range, if it and the parts fit
 abbrev fitting : Bool → Range → Ranged
@@ -94,6 +94,6 @@ module _ (o : OpenRanges) where
   ranged-beyond e h = sym (ranged-is e) ∙ ap isWithin h
 
 pub ranged-column : (shape : List ℕ) (ends : List ℤ) (items : List ℕ) (R i c : ℕ)
-    → ranged (columnIn shape ends items i c) ≡ rangedE (openRangesIn shape ends items R) (Expr.column i c)
-unfolding rangedE ranged columnIn
+    → ranged (itemRange shape ends items i c) ≡ rangedE (openRangesIn shape ends items R) (Expr.column i c)
+unfolding rangedE ranged itemRange
 ranged-column shape ends items R i c = refl

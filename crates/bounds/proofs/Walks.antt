@@ -22,7 +22,7 @@ use Rattle.meaning.specs.Bounds.{OpenRanges, withinC, allowedE, allowedC}
 use Rattle.language.proofs.Readers.{then-ok}
 use Rattle.language.proofs.PrefixForms.{readE-nil, readC-nil, readE-step, readC-step, readE-operation, readC-comparison, readC-connection}
 use Rattle.catalog.specs.Items.{openIn, openRangesIn}
-use Rattle.bounds.specs.Walk.{permittedOf, insideOf, rangedE, operatedR, roundedR, chosenR, aggregatedR, isWithin, sized, tested, columnAt, SizesE, SizesTwo, TestsC}
+use Rattle.bounds.specs.Walk.{permittedOf, insideOf, rangedE, operatedR, roundedR, chosenR, aggregatedR, isWithin, sized, tested, columnSized, SizesE, SizesTwo, TestsC}
 use Rattle.bounds.specs.declared.Rule.{Rule}
 use Rattle.bounds.specs.declared.Sized.{Sized}
 use Rattle.bounds.specs.declared.TwoSized.{TwoSized}
@@ -120,7 +120,7 @@ module _ (frame items shape : List ℕ) (ends : List ℤ) (rule : Rule) where
           settle (FactsE (sized (at + 1 + 2) true (ranged (constantOf (bytesZ (getD frame (at + 1) 0) (getD frame (at + 1 + 1) 0)))))) z
           (t .behind, refl, ap₂ (λ i j. ranged (constantOf (bytesZ i j))) (t .first) (t .second) ∙ ranged-constant I (bytesZ h g))))
 
-      pub on-column : getD frame at 0 ≡ 0x01 → {r : Sized} → r ≡ columnAt frame (at + 1) items shape ends rule → SizesE frame at items shape ends rule r
+      pub on-column : getD frame at 0 ≡ 0x01 → {r : Sized} → r ≡ columnSized frame (at + 1) items shape ends rule → SizesE frame at items shape ends rule r
       on-column k s = rw s (onE (atE 0x01 k) (omega arith) (omega arith) (λ e rest q.
           let t = column-at frame (W .widths) (at + 1) q in
           rw (t .0) (t .1, refl, ranged-column shape ends items (rule .bound) (getD frame (at + 1) 0) (getD frame (at + 1 + 1) 0))))

@@ -39,8 +39,8 @@ insideOf rule = record { bound = rule .bound; grouped = false; filter = false; p
 -- ---- ranges
 
 -- the range of a column of a from item, 0 to 0 where there is none
-unfoldable pub columnIn : List ℕ → List ℤ → List ℕ → ℕ → ℕ → Range
-columnIn shape ends fs i c = getD (getD (itemsIn shape ends fs) i []) c (constantOf (pos 0))
+unfoldable pub itemRange : List ℕ → List ℤ → List ℕ → ℕ → ℕ → Range
+itemRange shape ends fs i c = getD (getD (itemsIn shape ends fs) i []) c (constantOf (pos 0))
 
 -- the range of an expression if 32 bits hold it and every range inside it
 unfoldable pub rangedE : OpenRanges → Expr → Ranged
@@ -82,11 +82,11 @@ abbrev pub tested : ℕ → Bool → Bool → Tested
 tested next allowed within = record { next = next; allowed = allowed; within = within }
 
 -- of the column that the two bytes at a position name
-abbrev pub columnAt : List ℕ → ℕ → List ℕ → List ℕ → List ℤ → Rule → Sized
-columnAt frame at items shape ends rule =
+abbrev pub columnSized : List ℕ → ℕ → List ℕ → List ℕ → List ℤ → Rule → Sized
+columnSized frame at items shape ends rule =
     let i = getD frame at 0 in
     let c = getD frame (at + 1) 0 in
-    sized (at + 2) (permittedOf frame rule .columns i c) (ranged (columnIn shape ends items i c))
+    sized (at + 2) (permittedOf frame rule .columns i c) (ranged (itemRange shape ends items i c))
 
 -- ---- the walks: of the tree that is read at a position; and where no token of one stands there, that nothing is allowed and nothing fits
 

@@ -15,7 +15,7 @@ ghost use Rattle.value.specs.Value.{operationAt, aggregateAt};
 ghost use Rattle.range.specs.Ranges.{ranged, constantOf, operatedOf};
 ghost use Rattle.meaning.specs.Bounds.{groupingColumn};
 ghost use Rattle.catalog.specs.Items.{relationsIn};
-ghost use Rattle.bounds.specs.Walk.{placesFrom, permittedOf, insideOf, columnIn, columnAt, operatedR, roundedR, hullR, chosenR, aggregatedR, isWithin, sized, tested, SizesE, SizesTwo, TestsC};
+ghost use Rattle.bounds.specs.Walk.{placesFrom, permittedOf, insideOf, itemRange, columnSized, operatedR, roundedR, hullR, chosenR, aggregatedR, isWithin, sized, tested, SizesE, SizesTwo, TestsC};
 
 // Where an expression stands: the row bound, and whether it is in having or select of an aggregate view, whose grouping columns
 // are `count` pairs of bytes (from item, column) at `places` of the frame, or in a where condition.
@@ -90,7 +90,7 @@ fn constant(frame: &[u8], at: usize) -> Sized
 
 // The range of a column of a from item.
 fn range_of(items: Items, shape: &[u8], ends: &[i32], item: u8, column: u8) -> Ranged
-    ensures { λ r. ⌜ r ≡ ranged (columnIn (now (shape .entry)) (now (ends .entry)) (relationsIn items) item column) ⌝ }
+    ensures { λ r. ⌜ r ≡ ranged (itemRange (now (shape .entry)) (now (ends .entry)) (relationsIn items) item column) ⌝ }
 {
     if items.number <= item {
         return Ranged::Within(Range { lo: 0, hi: 0 });
@@ -133,7 +133,7 @@ fn permitted(frame: &[u8], rule: Rule, item: u8, column: u8) -> bool
 // The column that two bytes name.
 fn column(frame: &[u8], at: usize, items: Items, shape: &[u8], ends: &[i32], rule: Rule) -> Sized
     requires { ⌜ at ≤ length (now frame) ⌝ }
-    ensures { λ r. ⌜ r ≡ columnAt (now (frame .entry)) at (relationsIn items) (now (shape .entry)) (now (ends .entry)) rule ⌝ }
+    ensures { λ r. ⌜ r ≡ columnSized (now (frame .entry)) at (relationsIn items) (now (shape .entry)) (now (ends .entry)) rule ⌝ }
 {
     let item = byte_at(frame, at);
     let number = byte_at(frame, at + 1);

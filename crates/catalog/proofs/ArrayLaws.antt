@@ -9,7 +9,7 @@ use lib.IntN.{ℤ, pos}
 use lib.ListN.{length, getD, set, length-set, List·getD-eq-default, List·getD-append}
 use lib.Seq.{getD-set-same, getD-set-other, getD-append-seam, ext-getD}
 use Rattle.range.specs.declared.Range.{Range}
-use Rattle.range.specs.Ranges.{constantOf, columnOf, hullOf}
+use Rattle.range.specs.Ranges.{constantOf, rangeFrom, hullOf}
 use Rattle.meaning.proofs.Stacks.{by-lt, length-snoc}
 use Rattle.catalog.specs.Arrays.{kindAt, widthAt, boundAt, maskAt, startAt, rangesFrom, putRange, putShape, putStart, FirstKept, putRanges, rangeAt, Outside}
 
@@ -25,12 +25,12 @@ length-ranges ends at (suc n) = ap suc (length-ranges ends (at + 2) n)
 
 -- column c of n
 pub ranges-at : (ends : List ℤ) (at n c : ℕ) → c < n
-    → getD (rangesFrom ends at n) c none ≡ columnOf (getD ends (at + 2 * c) (pos 0)) (getD ends (at + 2 * c + 1) (pos 0))
+    → getD (rangesFrom ends at n) c none ≡ rangeFrom (getD ends (at + 2 * c) (pos 0)) (getD ends (at + 2 * c + 1) (pos 0))
 unfolding rangesFrom
 ranges-at ends at zero c h = absurd (omega arith)
 ranges-at ends at (suc n) zero h =
     let e : at ≡ at + 2 * 0 = omega arith in
-    ap (λ k. columnOf (getD ends k (pos 0)) (getD ends (k + 1) (pos 0))) e
+    ap (λ k. rangeFrom (getD ends k (pos 0)) (getD ends (k + 1) (pos 0))) e
 ranges-at ends at (suc n) (suc c) h =
     let e : at + 2 + 2 * c ≡ at + 2 * suc c = omega arith in
     rw (← e) (ranges-at ends (at + 2) n c (omega arith))
@@ -40,7 +40,7 @@ ranges-past ends at n c h = List·getD-eq-default (rangesFrom ends at n) none (r
 
 -- n ranges are those of a list, if each is
 pub ranges-list : (ends : List ℤ) (at n : ℕ) (rs : List Range) → length rs ≡ n
-    → ((c : ℕ) → c < n → columnOf (getD ends (at + 2 * c) (pos 0)) (getD ends (at + 2 * c + 1) (pos 0)) ≡ getD rs c none) → rangesFrom ends at n ≡ rs
+    → ((c : ℕ) → c < n → rangeFrom (getD ends (at + 2 * c) (pos 0)) (getD ends (at + 2 * c + 1) (pos 0)) ≡ getD rs c none) → rangesFrom ends at n ≡ rs
 ranges-list ends at n rs e h = ext-getD none (rangesFrom ends at n) rs (length-ranges ends at n ∙ sym e)
     (λ c l. let k : c < n = omega (arith, length-ranges ends at n) in ranges-at ends at n c k ∙ h c k)
 
@@ -48,19 +48,19 @@ ranges-list ends at n rs e h = ext-getD none (rangesFrom ends at n) rs (length-r
 pub ranges-same : (ends ends′ : List ℤ) (at n : ℕ) → ((k : ℕ) → at ≤ k → k < at + 2 * n → getD ends′ k (pos 0) ≡ getD ends k (pos 0))
     → rangesFrom ends′ at n ≡ rangesFrom ends at n
 ranges-same ends ends′ at n h = ranges-list ends′ at n (rangesFrom ends at n) (length-ranges ends at n)
-    (λ c l. ap₂ columnOf (h (at + 2 * c) (omega arith) (omega arith)) (h (at + 2 * c + 1) (omega arith) (omega arith)) ∙ sym (ranges-at ends at n c l))
+    (λ c l. ap₂ rangeFrom (h (at + 2 * c) (omega arith) (omega arith)) (h (at + 2 * c + 1) (omega arith) (omega arith)) ∙ sym (ranges-at ends at n c l))
 
 pub ranges-snoc : (ends : List ℤ) (at n : ℕ)
-    → rangesFrom ends at (suc n) ≡ rangesFrom ends at n ++ (columnOf (getD ends (at + 2 * n) (pos 0)) (getD ends (at + 2 * n + 1) (pos 0)) ∷ [])
+    → rangesFrom ends at (suc n) ≡ rangesFrom ends at n ++ (rangeFrom (getD ends (at + 2 * n) (pos 0)) (getD ends (at + 2 * n + 1) (pos 0)) ∷ [])
 ranges-snoc ends at n =
-    let x = columnOf (getD ends (at + 2 * n) (pos 0)) (getD ends (at + 2 * n + 1) (pos 0)) in
+    let x = rangeFrom (getD ends (at + 2 * n) (pos 0)) (getD ends (at + 2 * n + 1) (pos 0)) in
     let rs = rangesFrom ends at n in
     ranges-list ends at (suc n) (rs ++ (x ∷ [])) (length-snoc rs x ∙ ap suc (length-ranges ends at n))
     (λ c l. by-lt c n
     (λ _ h. sym (List·getD-append rs (x ∷ []) none c (rw (length-ranges ends at n) h) ∙ ranges-at ends at n c h))
     (λ _ h. let e : c ≡ length rs = omega (arith, length-ranges ends at n) in let q : c ≡ n = omega arith in
     let z : getD (rs ++ (x ∷ [])) c none ≡ x = rw e (getD-append-seam rs x [] none) in
-    ap (λ k. columnOf (getD ends (at + 2 * k) (pos 0)) (getD ends (at + 2 * k + 1) (pos 0))) q ∙ sym z))
+    ap (λ k. rangeFrom (getD ends (at + 2 * k) (pos 0)) (getD ends (at + 2 * k + 1) (pos 0))) q ∙ sym z))
 
 -- ---- a range stored
 
@@ -78,11 +78,11 @@ module _ (ends : List ℤ) (r c : ℕ) (x : Range) where
 
   -- the column is the range
   pub put-there : 16 * r + 2 * c + 1 < length ends
-      → columnOf (getD (putRange ends r c x) (16 * r + 2 * c) (pos 0)) (getD (putRange ends r c x) (16 * r + 2 * c + 1) (pos 0)) ≡ x
+      → rangeFrom (getD (putRange ends r c x) (16 * r + 2 * c) (pos 0)) (getD (putRange ends r c x) (16 * r + 2 * c + 1) (pos 0)) ≡ x
   unfolding putRange
   put-there h =
       let mid = set ends (16 * r + 2 * c) (x .lo) in
-      ap₂ columnOf
+      ap₂ rangeFrom
       (getD-set-other mid (16 * r + 2 * c + 1) (16 * r + 2 * c) (x .hi) (pos 0) (λ e. omega arith)
       ∙ getD-set-same ends (16 * r + 2 * c) (x .lo) (pos 0) (omega arith))
       (getD-set-same mid (16 * r + 2 * c + 1) (x .hi) (pos 0) (rw (length-set ends (16 * r + 2 * c) (x .lo)) h))
@@ -133,13 +133,13 @@ module _ (f : ℕ → Range) (ends : List ℤ) (r : ℕ) where
   puts-outside (suc n) h = outside-more (puts-outside n (omega arith)) (put-outside (putRanges f ends r n) r n (f n) (omega arith))
 
   pub puts-column : r < 16 → length ends ≡ 256 → (n : ℕ) → n ≤ 8 → (c : ℕ) → c < n
-      → columnOf (getD (putRanges f ends r n) (16 * r + 2 * c) (pos 0)) (getD (putRanges f ends r n) (16 * r + 2 * c + 1) (pos 0)) ≡ f c
+      → rangeFrom (getD (putRanges f ends r n) (16 * r + 2 * c) (pos 0)) (getD (putRanges f ends r n) (16 * r + 2 * c + 1) (pos 0)) ≡ f c
   unfolding putRanges
   puts-column s z zero h c l = absurd (omega arith)
   puts-column s z (suc n) h c l =
       let old = putRanges f ends r n in
       by-lt c n
-      (λ _ k. ap₂ columnOf (put-other old r n (f n) (16 * r + 2 * c) (λ e. omega arith) (λ e. omega arith))
+      (λ _ k. ap₂ rangeFrom (put-other old r n (f n) (16 * r + 2 * c) (λ e. omega arith) (λ e. omega arith))
       (put-other old r n (f n) (16 * r + 2 * c + 1) (λ e. omega arith) (λ e. omega arith))
       ∙ puts-column s z n (omega arith) c k)
       (λ _ k. let e : c ≡ n = omega arith in rw e (put-there old r n (f n) (omega (arith, puts-outside n (omega arith) .size))))
@@ -168,10 +168,10 @@ module _ (f : ℕ → Range) (ends : List ℤ) (r : ℕ) where
 -- ---- a range read
 
 module _ (shape : List ℕ) (ends : List ℤ) (r c : ℕ) where
-  pub range-past : widthAt shape r ≤ c → columnOf (pos 0) (pos 0) ≡ rangeAt shape ends r c
+  pub range-past : widthAt shape r ≤ c → rangeFrom (pos 0) (pos 0) ≡ rangeAt shape ends r c
   range-past h = sym (ranges-past ends (16 * r) (widthAt shape r) c h)
 
-  pub range-there : c < widthAt shape r → columnOf (getD ends (16 * r + 2 * c) (pos 0)) (getD ends (16 * r + 2 * c + 1) (pos 0)) ≡ rangeAt shape ends r c
+  pub range-there : c < widthAt shape r → rangeFrom (getD ends (16 * r + 2 * c) (pos 0)) (getD ends (16 * r + 2 * c + 1) (pos 0)) ≡ rangeAt shape ends r c
   range-there h = sym (ranges-at ends (16 * r) (widthAt shape r) c h)
 
 -- ---- the first four bytes of a relation

@@ -11,7 +11,7 @@ use Rattle.value.specs.Value.{Column}
 use Rattle.value.proofs.Fits.{narrow16-held}
 use Rattle.value.proofs.Order.{≤-trans}
 use Rattle.range.specs.declared.Range.{Range}
-use Rattle.range.specs.Ranges.{columnOf}
+use Rattle.range.specs.Ranges.{rangeFrom}
 use Rattle.meaning.specs.Syntax.{Table, File}
 use Rattle.meaning.specs.Bounds.{Schema, noSchema, schema, schemas, tableSchema, viewSchema}
 use Rattle.meaning.proofs.Elements.{all-at}
@@ -46,8 +46,8 @@ tables-in {ts} {shape} {ends} legal known = record {
   column = λ t c h k.
       let cs = tableAt ts t .columns in
       let x = getD cs c noColumn in
-      let range : rangeAt shape ends t c ≡ columnOf (x .lo) (x .hi) =
-      ap (λ (s : Schema). getD (s .ranges) c none) (known t h) ∙ map-at (λ (y : Column). columnOf (y .lo) (y .hi)) cs c noColumn none k in
+      let range : rangeAt shape ends t c ≡ rangeFrom (x .lo) (x .hi) =
+      ap (λ (s : Schema). getD (s .ranges) c none) (known t h) ∙ map-at (λ (y : Column). rangeFrom (y .lo) (y .hi)) cs c noColumn none k in
       ap (λ (r : Range). record { lo = narrow16 (r .lo); hi = narrow16 (r .hi) }) range
       ∙ column-told x (all-at (all-at legal (record { rows = 0; columns = []; key = [] }) t h .columns) noColumn c k);
 }

@@ -14,7 +14,7 @@ use Rattle.value.specs.Integer.{bytesZ}
 use Rattle.value.specs.Value.{Column}
 use Rattle.value.proofs.Decides.{by-test, and-parts}
 use Rattle.range.specs.declared.Range.{Range}
-use Rattle.range.specs.Ranges.{columnOf}
+use Rattle.range.specs.Ranges.{rangeFrom}
 use Rattle.meaning.specs.Syntax.{Table}
 use Rattle.language.specs.Reading.{Read, Reader, _>>=_, byteIf, done}
 use Rattle.language.proofs.Readers.{then-ok}
@@ -39,7 +39,7 @@ byte-read n p (b ∷ bs) k {x} {rest} e = by-test (p b)
 -- ---- columns
 
 abbrev rangeOf : Column → Range
-rangeOf c = columnOf (c .lo) (c .hi)
+rangeOf c = rangeFrom (c .lo) (c .hi)
 
 abbrev columnOn : List ℕ → ℕ → Range
 columnOn bs k = rangeOf (columnFrom bs k)

@@ -7,7 +7,7 @@ use lib.ListN.{length, getD, drop, set}
 use Rattle.value.specs.Integer.{bytesZ}
 use Rattle.value.specs.Value.{Column}
 use Rattle.range.specs.declared.Range.{Range}
-use Rattle.range.specs.Ranges.{columnOf, hullOf}
+use Rattle.range.specs.Ranges.{rangeFrom, hullOf}
 use Rattle.meaning.specs.Syntax.{Table, SetOperation, View}
 use Rattle.language.specs.Reading.{Read}
 use Rattle.meaning.specs.Bounds.{viewSchema}
@@ -26,7 +26,7 @@ columnFrom packed at =
 
 -- column c of a table's frame
 unfoldable pub columnIn : List ℕ → ℕ → Range
-columnIn frame c = let x = columnFrom frame (4 * c + columnsStart) in columnOf (x .lo) (x .hi)
+columnIn frame c = let x = columnFrom frame (4 * c + columnsStart) in rangeFrom (x .lo) (x .hi)
 
 -- the hull of column c of two relations
 unfoldable pub hullAt : List ℕ → List ℤ → ℕ → ℕ → ℕ → Range

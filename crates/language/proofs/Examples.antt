@@ -2,7 +2,7 @@
 use mathlib.Core.Path.{_≡_, refl}
 use mathlib.Core.List.{List, [], _∷_}
 use Prim.Native.Nat.{ℕ}
-use Rattle.text.specs.Text.{framesOf, linesOf, run, step, hexValue, textOf, line, hex, hexDigit}
+use Rattle.text.specs.Text.{framesOf, linesOf, readOn, step, hexValue, textOf, line, hex, hexDigit}
 use Rattle.language.specs.FileOf.{fileOf, fileText}
 use Rattle.value.specs.Integer.{signedOf, bitsOf, minZ, maxZ}
 use Rattle.value.specs.Value.{size}
@@ -28,6 +28,6 @@ rewritten (Outcome.refused n l) = []
 rewritten (Outcome.accepted F) = fileText F
 
 program-written : rewritten (fileOf program) ≡ program
-unfolding fileOf framesOf linesOf run step hexValue textOf line hex hexDigit reach checkFrame readE readC deepE deepC candidates size signedOf minZ maxZ
+unfolding fileOf framesOf linesOf readOn step hexValue textOf line hex hexDigit reach checkFrame readE readC deepE deepC candidates size signedOf minZ maxZ
     bitsOf tableBytes viewBytes goalBytes fileFrames encodeE encodeC
 program-written = refl

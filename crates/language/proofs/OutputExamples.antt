@@ -6,7 +6,7 @@ use Prim.Native.Nat.{ℕ}
 use lib.IntN.{ℤ, pos, negsuc}
 use Rattle.value.specs.Integer.{signedOf}
 use Rattle.value.specs.Value.{Value}
-use Rattle.text.specs.Text.{textOf, line, hex, hexDigit, hexValue, step, run, linesOf, framesOf}
+use Rattle.text.specs.Text.{textOf, line, hex, hexDigit, hexValue, step, readOn, linesOf, framesOf}
 use Rattle.language.specs.Told.{Shown, Told, valuesIn, tableIn, toldBy, readBack}
 
 -- a row of two
@@ -19,7 +19,7 @@ table t rs = record { relation = t; rows = rs }
 -- the output of a rule for portions of a recipe: case 885
 portions : readBack (textOf ((0x80 ∷ 0 ∷ 0 ∷ 3 ∷ 0x75 ∷ []) ∷ (0x81 ∷ 0 ∷ 1 ∷ 0 ∷ 1 ∷ 0 ∷ 5 ∷ []) ∷ (0x81 ∷ 1 ∷ 1 ∷ 0 ∷ 1 ∷ 0 ∷ 95 ∷ []) ∷ []))
     ≡ Told.case 885 (table 0 (two (pos 1) (pos 5) ∷ []) ∷ table 1 (two (pos 1) (pos 95) ∷ []) ∷ [])
-unfolding readBack toldBy tableIn valuesIn signedOf framesOf linesOf run step hexValue textOf line hex hexDigit
+unfolding readBack toldBy tableIn valuesIn signedOf framesOf linesOf readOn step hexValue textOf line hex hexDigit
 portions = refl
 
 -- two rows, and a table without rows
@@ -42,5 +42,5 @@ unfolding readBack framesOf
 nothing = refl
 
 unclosed : readBack (56 ∷ 50 ∷ []) ≡ Told.unreadable
-unfolding readBack framesOf linesOf run step hexValue
+unfolding readBack framesOf linesOf readOn step hexValue
 unclosed = refl

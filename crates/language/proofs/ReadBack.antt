@@ -30,7 +30,7 @@ use Rattle.text.proofs.Laws.{reads-back}
 use Rattle.text.proofs.Writing.{text-length}
 use Rattle.language.specs.Legal.{LegalColumn, LegalTable, Legal}
 use Rattle.language.proofs.LegalBytes.{high-limit, low-limit}
-use Rattle.language.specs.OutputOf.{twoBytes, numberBytes, valueBytes, caseFrame, tableFrame, tableFrames, noCaseFrame, refusalFrame}
+use Rattle.language.specs.OutputOf.{inTwoBytes, numberBytes, valueBytes, caseFrame, rowsFrame, rowsFrames, noCaseFrame, refusalFrame}
 use Rattle.language.specs.Told.{Told, valuesIn, tableIn, toldBy, toldLines, readBack, numberedFrom}
 
 -- ---- the bytes of numbers
@@ -52,7 +52,7 @@ four-back n h = omega arith
 put : (b : ℕ) {bs : List ℕ} → b < 256 → All Byte bs → All Byte (b ∷ bs)
 put b p ps = All.cons p ps
 
-two-bytes : (n : ℕ) → All Byte (twoBytes n)
+two-bytes : (n : ℕ) → All Byte (inTwoBytes n)
 two-bytes n = put (n / 256 % 256) (omega arith) (put (n % 256) (omega arith) All.nil)
 
 -- ---- cells
@@ -105,14 +105,14 @@ module _ (i : ℕ) {t : Table} {R : List Row} (legal : LegalTable t) (own : InRa
   wide : All (λ r. length r ≡ length (t .columns)) R
   wide = all-map (λ r p. each-length p) (own .values)
 
-  table-back : tableIn (tableFrame i R) ≡ record { relation = i; rows = R }
-  unfolding tableIn tableFrame
+  table-back : tableIn (rowsFrame i R) ≡ record { relation = i; rows = R }
+  unfolding tableIn rowsFrame
   table-back =
       ap (λ (vs : List Value). record { relation = i; rows = cutRows (length R) (length vs / length R) vs }) (cells-back cells)
       ∙ ap (λ (rs : List Row). record { relation = i; rows = rs }) (rows-back (length (t .columns)) wide)
 
-  table-frame : i < 16 → Frame (tableFrame i R)
-  unfolding tableFrame
+  table-frame : i < 16 → Frame (rowsFrame i R)
+  unfolding rowsFrame
   table-frame h =
       let n : length R ≤ 8 = omega (arith, own .rows, legal .rows) in
       let few : length (joined R) ≤ 8 * 4 = omega (arith, length-joined (length (t .columns)) wide, mul-le-mul n (legal .count .most)) in
@@ -123,15 +123,15 @@ module _ (i : ℕ) {t : Table} {R : List Row} (legal : LegalTable t) (own : InRa
         few = omega arith;
       }
 
-tables-back : (i : ℕ) {ts : List Table} {d : Database} → All LegalTable ts → Each InRange ts d → map tableIn (tableFrames i d) ≡ numberedFrom i d
+tables-back : (i : ℕ) {ts : List Table} {d : Database} → All LegalTable ts → Each InRange ts d → map tableIn (rowsFrames i d) ≡ numberedFrom i d
 tables-back i All.nil Each.nil = refl
 tables-back i (All.cons l ls) (Each.cons r rs) = ap₂ _∷_ (table-back i l r) (tables-back (suc i) ls rs)
 
-tables-frames : (i : ℕ) {ts : List Table} {d : Database} → All LegalTable ts → Each InRange ts d → i + length ts ≤ 16 → All Frame (tableFrames i d)
+tables-frames : (i : ℕ) {ts : List Table} {d : Database} → All LegalTable ts → Each InRange ts d → i + length ts ≤ 16 → All Frame (rowsFrames i d)
 tables-frames i All.nil Each.nil h = All.nil
 tables-frames i (All.cons l ls) (Each.cons r rs) h = All.cons (table-frame i l r (omega arith)) (tables-frames (suc i) ls rs (omega arith))
 
-tables-count : (i : ℕ) (d : Database) → length (tableFrames i d) ≡ length d
+tables-count : (i : ℕ) (d : Database) → length (rowsFrames i d) ≡ length d
 tables-count i [] = refl
 tables-count i (rs ∷ d) = ap suc (tables-count (suc i) d)
 
@@ -158,12 +158,12 @@ unfolding toldBy
 none-back = frames-back noCaseFrame (record { bytes = put 0x82 (omega arith) All.nil; some = omega arith; few = omega arith }) All.nil (omega arith)
 
 pub case-back : (F : File) (k : ℕ) → Legal F → wellFormed F ≡ true → k < candidates F
-    → readBack (textOf (caseFrame k ∷ tableFrames 0 (database F k))) ≡ Told.case k (numberedFrom 0 (database F k))
+    → readBack (textOf (caseFrame k ∷ rowsFrames 0 (database F k))) ≡ Told.case k (numberedFrom 0 (database F k))
 unfolding toldBy
 case-back F k l well h =
     let d = database F k in
     let shaped : Each InRange (F .tables) d = numbered F (rules F well .columns) .shaped k in
-    let few : length (tableFrames 0 d) ≤ 16 = omega (arith, tables-count 0 d, each-length shaped, l .relationCount) in
+    let few : length (rowsFrames 0 d) ≤ 16 = omega (arith, tables-count 0 d, each-length shaped, l .relationCount) in
     let own : Frame (caseFrame k) = record {
       bytes = put 0x80 (omega arith) (all-append (two-bytes (k / 65536)) (two-bytes k));
       some = omega arith;

@@ -10,7 +10,7 @@ use native.Mathlib.Omega.{arith}
 use lib.Dec.{leb, eqb}
 use Rattle.value.specs.Integer.{signedOf}
 use Rattle.value.specs.Value.{size}
-use Rattle.text.specs.Text.{Lines, framesOf, linesOf, run, step, hexValue, textOf, line, hex, hexDigit}
+use Rattle.text.specs.Text.{Lines, framesOf, linesOf, readOn, step, hexValue, textOf, line, hex, hexDigit}
 use Rattle.meaning.specs.Syntax.{Goal}
 use Rattle.language.specs.Reading.{Read, deepE, deepC, readE, readC}
 use Rattle.meaning.specs.Bounds.{sameWidth, aggregatesFit, bounded, rangesFit}
@@ -108,11 +108,11 @@ view-of-both =
     ∷ [])
 
 by-aggregate : fileOf view-of-both ≡ Outcome.refused 7 2
-unfolding fileOf framesOf linesOf run step hexValue textOf line hex hexDigit reach checkFrame readE readC deepE deepC signedOf
+unfolding fileOf framesOf linesOf readOn step hexValue textOf line hex hexDigit reach checkFrame readE readC deepE deepC signedOf
 by-aggregate = refl
 
 by-bound : checkBy boundFirst finished view-of-both ≡ Outcome.refused 8 2
-unfolding framesOf linesOf run step hexValue textOf line hex hexDigit readE readC deepE deepC signedOf
+unfolding framesOf linesOf readOn step hexValue textOf line hex hexDigit readE readC deepE deepC signedOf
 by-bound = refl
 
 bound-first : Refuses (checkBy boundFirst finished) → ⊥
@@ -132,11 +132,11 @@ abbrev table-alone : List ℕ
 table-alone = textOf ((0x01 ∷ 0x08 ∷ 0x01 ∷ 0x00 ∷ 0x80 ∷ 0x00 ∷ 0x7f ∷ 0xff ∷ []) ∷ [])
 
 by-goal : fileOf table-alone ≡ Outcome.refused 3 0
-unfolding fileOf framesOf linesOf run step hexValue textOf line hex hexDigit reach checkFrame signedOf
+unfolding fileOf framesOf linesOf readOn step hexValue textOf line hex hexDigit reach checkFrame signedOf
 by-goal = refl
 
 by-count : checkBy wholeFault countFirst table-alone ≡ Outcome.refused 10 0
-unfolding framesOf linesOf run step hexValue textOf line hex hexDigit candidates size signedOf
+unfolding framesOf linesOf readOn step hexValue textOf line hex hexDigit candidates size signedOf
 by-count = refl
 
 count-first : Refuses (checkBy wholeFault countFirst) → ⊥

@@ -21,11 +21,11 @@ use Rattle.language.specs.FileOf.{fileOf}
 
 -- ---- numbers as bytes: "Sixteen-bit fields are high byte first"
 
-abbrev pub twoBytes : ℕ → List ℕ
-twoBytes n = n / 256 % 256 ∷ n % 256 ∷ []
+abbrev pub inTwoBytes : ℕ → List ℕ
+inTwoBytes n = n / 256 % 256 ∷ n % 256 ∷ []
 
-abbrev pub fourBytes : ℕ → List ℕ
-fourBytes n = twoBytes (n / 65536) ++ twoBytes n
+abbrev pub inFourBytes : ℕ → List ℕ
+inFourBytes n = inTwoBytes (n / 65536) ++ inTwoBytes n
 
 -- the two bytes of each number
 unfoldable pub numberBytes : List ℤ → List ℕ
@@ -40,16 +40,16 @@ valueBytes vs = numberBytes (map shown vs)
 
 -- "80 and k in four bytes"
 abbrev pub caseFrame : ℕ → List ℕ
-caseFrame k = 0x80 ∷ fourBytes k
+caseFrame k = 0x80 ∷ inFourBytes k
 
 -- "81, relation, rows, values row by row in two bytes"
-unfoldable pub tableFrame : ℕ → List Row → List ℕ
-tableFrame t rs = 0x81 ∷ t ∷ length rs ∷ valueBytes (joined rs)
+unfoldable pub rowsFrame : ℕ → List Row → List ℕ
+rowsFrame t rs = 0x81 ∷ t ∷ length rs ∷ valueBytes (joined rs)
 
 -- "for each table", from table t on
-abbrev pub tableFrames : ℕ → Database → List (List ℕ)
-tableFrames t [] = []
-tableFrames t (rs ∷ d) = tableFrame t rs ∷ tableFrames (suc t) d
+abbrev pub rowsFrames : ℕ → Database → List (List ℕ)
+rowsFrames t [] = []
+rowsFrames t (rs ∷ d) = rowsFrame t rs ∷ rowsFrames (suc t) d
 
 -- "82 for no case"
 abbrev pub noCaseFrame : List ℕ
@@ -57,13 +57,13 @@ noCaseFrame = 0x82 ∷ []
 
 -- "8f, number, line in two bytes"
 abbrev pub refusalFrame : ℕ → ℕ → List ℕ
-refusalFrame n l = 0x8f ∷ n ∷ twoBytes l
+refusalFrame n l = 0x8f ∷ n ∷ inTwoBytes l
 
 -- ---- the program
 
 -- the frames of an answer to a look at a file; "spent" is no frame, since the program searches to the end
 abbrev pub answerFrames : File → Answer → List (List ℕ)
-answerFrames F (Answer.case k) = caseFrame k ∷ tableFrames 0 (database F k)
+answerFrames F (Answer.case k) = caseFrame k ∷ rowsFrames 0 (database F k)
 answerFrames F Answer.noCase = noCaseFrame ∷ []
 answerFrames F (Answer.spent next) = []
 answerFrames F (Answer.refused n l) = refusalFrame n l ∷ []

@@ -14,7 +14,7 @@ use Rattle.meaning.specs.Looks.{First, NoDatabase}
 use Rattle.text.specs.Text.{Lines, framesOf, textOf}
 use Rattle.language.specs.Check.{Outcome}
 use Rattle.language.specs.FileOf.{fileOf}
-use Rattle.language.specs.OutputOf.{caseFrame, tableFrames, noCaseFrame, refusalFrame}
+use Rattle.language.specs.OutputOf.{caseFrame, rowsFrames, noCaseFrame, refusalFrame}
 
 -- ---- what an output can tell
 
@@ -84,4 +84,4 @@ pub data Says (text : List ℕ) : List ℕ → Told → Type 0 where
   refused : {n l : ℕ} → fileOf text ≡ Outcome.refused n l → Says text (textOf (refusalFrame n l ∷ [])) (Told.refused n l)
   none : {F : File} → fileOf text ≡ Outcome.accepted F → NoDatabase F → Says text (textOf (noCaseFrame ∷ [])) Told.none
   first : {F : File} {k : ℕ} → fileOf text ≡ Outcome.accepted F → First F k
-      → Says text (textOf (caseFrame k ∷ tableFrames 0 (database F k))) (Told.case k (numberedFrom 0 (database F k)))
+      → Says text (textOf (caseFrame k ∷ rowsFrames 0 (database F k))) (Told.case k (numberedFrom 0 (database F k)))

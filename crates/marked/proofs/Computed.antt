@@ -13,7 +13,7 @@ use Rattle.value.specs.Integer.{bitsOf, maxZ, minZ, roundZ, signedOf, stepsUp}
 use Rattle.value.specs.Value.{Value, apply, between, compare, connect, digit, finish, holds, more, negate, round, sameValue, shown, size, start, sure, weight}
 use Rattle.value.proofs.Decides.{dec-true}
 use Rattle.value.proofs.Values.{all-map}
-use Rattle.range.specs.Ranges.{columnOf}
+use Rattle.range.specs.Ranges.{rangeFrom}
 use Rattle.meaning.specs.Syntax.{File}
 use Rattle.language.specs.Reading.{deepE, readE, readC}
 use Rattle.meaning.specs.Rows.{rows}
@@ -25,13 +25,13 @@ use Rattle.meaning.specs.Looks.{Ask, NoDatabase}
 use Rattle.meaning.proofs.DecidedLists.{ltb-dec}
 use Rattle.meaning.proofs.OneLook.{passes-over-none}
 use Rattle.meaning.proofs.Relations.{rows-mean}
-use Rattle.text.specs.Text.{framesOf, linesOf, run, step, hexValue as hexValue, textOf, line, hex, hexDigit}
+use Rattle.text.specs.Text.{framesOf, linesOf, readOn, step, hexValue as hexValue, textOf, line, hex, hexDigit}
 use Rattle.language.specs.Check.{Outcome, checkFrame, reach}
 use Rattle.language.specs.FileOf.{fileOf}
 use Rattle.language.proofs.TextLaws.{accepted-text}
 use Rattle.language.proofs.RealLooks.{look-of-text, demand-3, look-says}
 use Rattle.language.specs.LookOf.{lookOf}
-use Rattle.language.specs.OutputOf.{numberBytes, tableFrame, searchedAll, outputOf, outputRoom, Printed}
+use Rattle.language.specs.OutputOf.{numberBytes, rowsFrame, searchedAll, outputOf, outputRoom, Printed}
 use Rattle.marked.specs.Table.{Entry, LookGives, Judges, Prints, Right}
 
 -- ---- a look
@@ -80,16 +80,16 @@ prints text output e out r out′ p h =
 -- what there is to compute of an entry. To unfold this is to unfold the names of its line
 unfoldable pub Computed : Entry → Type 0
 unfolding
-    fileOf framesOf linesOf run step hexValue reach checkFrame readE readC deepE signedOf minZ maxZ candidates size
+    fileOf framesOf linesOf readOn step hexValue reach checkFrame readE readC deepE signedOf minZ maxZ candidates size
     isCaseAt isCase valid someRow database cells digit shown between sameValue compare apply round roundZ stepsUp sure holds negate connect
-    start weight more finish outputOf searchedAll tableFrame numberBytes bitsOf textOf line hex hexDigit
+    start weight more finish outputOf searchedAll rowsFrame numberBytes bitsOf textOf line hex hexDigit
 Computed (Entry.looked text s c a shows) = (F : File) × (fileOf text ≡ Outcome.accepted F)
     × ((work inst : List ℤ) → fitting F s c work inst ≡ After.after a (zeros work) (shows ++ drop (length shows) inst))
 Computed (Entry.viewed text k v rs) = (F : File) × (fileOf text ≡ Outcome.accepted F)
     × (ltb k (candidates F) ≡ true) × (ltb v (length (F .tables) + length (F .views)) ≡ true) × (rows F (database F k) v ≡ map (map Value.number) rs)
 Computed (Entry.bounded text v n rs) = (F : File) × (fileOf text ≡ Outcome.accepted F)
     × (ltb v (length (F .tables) + length (F .views)) ≡ true)
-    × (schema (schemas F) v ≡ record { bound = n; ranges = map (λ r. columnOf (r .0) (r .1)) rs })
+    × (schema (schemas F) v ≡ record { bound = n; ranges = map (λ r. rangeFrom (r .0) (r .1)) rs })
 Computed (Entry.accepted text n) = (F : File) × (fileOf text ≡ Outcome.accepted F) × (candidates F ≡ n)
 Computed (Entry.refused text n l) = fileOf text ≡ Outcome.refused n l
 Computed (Entry.printed text output) = outputOf text ≡ output

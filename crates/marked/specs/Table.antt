@@ -7,7 +7,7 @@ use Prim.Native.String.{String, [] as no-more, _∷_ as _and-then_}
 use lib.IntN.{ℤ, pos, negℤ}
 use lib.ListN.{length, drop}
 use Rattle.value.specs.Value.{Value}
-use Rattle.range.specs.Ranges.{columnOf}
+use Rattle.range.specs.Ranges.{rangeFrom}
 use Rattle.meaning.specs.Syntax.{File, Row}
 use Rattle.meaning.specs.Rows.{rows}
 use Rattle.meaning.specs.Algebra.{MeaningOf}
@@ -59,7 +59,7 @@ Shows k v rs F = let d = database F k in (k < candidates F) × Relation v F × M
 
 -- a relation that is there: exactly this row bound and exactly these ranges
 abbrev pub Spans : ℕ → ℕ → List (ℤ × ℤ) → File → Type 0
-Spans v n rs F = Relation v F × (schema (schemas F) v ≡ record { bound = n; ranges = map (λ r. columnOf (r .0) (r .1)) rs })
+Spans v n rs F = Relation v F × (schema (schemas F) v ≡ record { bound = n; ranges = map (λ r. rangeFrom (r .0) (r .1)) rs })
 
 -- what `report::output` gives of a text and a buffer with room, whatever it holds: the lines at its front, their number of bytes, and the
 -- rest as it was

@@ -11,7 +11,7 @@ use Rattle.value.specs.Bag.{All}
 use Rattle.value.specs.Value.{Column}
 use Rattle.value.proofs.Decides.{and-parts}
 use Rattle.value.proofs.Values.{all-map}
-use Rattle.range.specs.Ranges.{columnOf}
+use Rattle.range.specs.Ranges.{rangeFrom}
 use Rattle.range.specs.declared.Range.{Range}
 use Rattle.range.proofs.Soundness.{column-inside}
 use Rattle.meaning.specs.Lists.{Each, all, stack}
@@ -31,7 +31,7 @@ use Rattle.meaning.proofs.ViewRanges.{view-bounds, view-clear}
 
 table-bounds : (t : Table) (R : List Row) → InRange t R → InBounds (tableSchema t) R
 table-bounds t R h =
-    let f : Column → Range = λ c. columnOf (c .lo) (c .hi) in
+    let f : Column → Range = λ c. rangeFrom (c .lo) (c .hi) in
     record { size = omega (arith, h .rows); values = all-map (λ r e. each-image f (λ c v w. column-inside w) e) (h .values) }
 
 pub tables-bounds : {ts : List Table} {d : Database} → Each InRange ts d → Each InBounds (map tableSchema ts) d

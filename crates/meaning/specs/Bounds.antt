@@ -8,7 +8,7 @@ use lib.IntN.{pos}
 use lib.Signed.{leZ}
 use lib.ListN.{length, getD}
 use Rattle.value.specs.Value.{Column}
-use Rattle.range.specs.Ranges.{within32, constantOf, columnOf, hullOf, operatedOf, roundedOf, aggregatedOf}
+use Rattle.range.specs.Ranges.{within32, constantOf, rangeFrom, hullOf, operatedOf, roundedOf, aggregatedOf}
 use Rattle.range.specs.declared.Range.{Range}
 use Rattle.meaning.specs.Lists.{all, any, each, stack, stackAll}
 use Rattle.meaning.specs.Syntax.{Expr, Cond, SetOperation, View, Place, Table, Goal, File}
@@ -76,7 +76,7 @@ abbrev mutual
 
 -- "a constant or table column is itself"
 abbrev pub tableSchema : Table → Schema
-tableSchema t = record { bound = t .rows; ranges = map (λ c. columnOf (c .lo) (c .hi)) (t .columns) }
+tableSchema t = record { bound = t .rows; ranges = map (λ c. rangeFrom (c .lo) (c .hi)) (t .columns) }
 
 -- "Union columns take hulls"
 abbrev pub hulls : List Range → List Range → List Range

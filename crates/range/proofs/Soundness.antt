@@ -8,13 +8,13 @@ use Rattle.value.specs.Bag.{All}
 use Rattle.value.specs.Value.{Operation, Aggregate, aggregateAt, Value, apply, round, tally, total, TallyBetween, Column, InColumn}
 use Rattle.value.proofs.Order.{min-below, max-above}
 use Rattle.value.proofs.Values.{between-wider, between-self, apply-between, round-between, count-between, sum-tally, minimum-tally, maximum-tally, total-between}
-use Rattle.range.specs.Ranges.{Inside, constantOf, columnOf, hullOf, operatedOf, roundedOf, aggregatedOf}
+use Rattle.range.specs.Ranges.{Inside, constantOf, rangeFrom, hullOf, operatedOf, roundedOf, aggregatedOf}
 use Rattle.range.specs.declared.Range.{Range}
 
 pub constant-inside : (z : ℤ) → Inside (constantOf z) (Value.number z)
 constant-inside z = between-self z
 
-pub column-inside : {c : Column} {v : Value} → InColumn c v → Inside (columnOf (c .lo) (c .hi)) v
+pub column-inside : {c : Column} {v : Value} → InColumn c v → Inside (rangeFrom (c .lo) (c .hi)) v
 column-inside w = w .bounds
 
 module _ {a : Range} {v : Value} (i : Inside a v) where

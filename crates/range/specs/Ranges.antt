@@ -41,8 +41,8 @@ ranged r = cond (within32 r) (Within r) Beyond
 abbrev pub constantOf : ℤ → Range
 constantOf z = record { lo = z; hi = z }
 
-abbrev pub columnOf : ℤ → ℤ → Range
-columnOf l h = record { lo = l; hi = h }
+abbrev pub rangeFrom : ℤ → ℤ → Range
+rangeFrom l h = record { lo = l; hi = h }
 
 -- "06 takes the hull of both branches", "Union columns take hulls"
 abbrev pub hullOf : Range → Range → Range

@@ -2,7 +2,7 @@
 use value::integer;
 ghost use mathlib.Core.Path.{_≡_};
 ghost use Rattle.value.specs.Value.{Operation, operationAt, aggregateAt, applyZ};
-ghost use Rattle.range.specs.Ranges.{constantOf, columnOf, hullOf, operatedOf, roundedOf, scaledOf, countOf, aggregatedOf, fitted, rangedTold, Results};
+ghost use Rattle.range.specs.Ranges.{constantOf, rangeFrom, hullOf, operatedOf, roundedOf, scaledOf, countOf, aggregatedOf, fitted, rangedTold, Results};
 
 // The whole numbers from lo to hi.
 pub struct Range {
@@ -51,7 +51,7 @@ impl Range {
     // A column of a table.
     // Refused: hi for lo; lo for hi.
     pub fn column(lo: i16, hi: i16) -> Range
-        ensures { λ r. ⌜ r ≡ columnOf lo hi ⌝ }
+        ensures { λ r. ⌜ r ≡ rangeFrom lo hi ⌝ }
     {
         Range {
             lo: integer::widen16(lo),
@@ -62,7 +62,7 @@ impl Range {
     // The range from lo to hi, if 32 bits hold both.
     // Refused: from -2^31 + 1; lo for hi.
     pub fn checked(lo: i64, hi: i64) -> Ranged
-        ensures { λ r. ⌜ rangedTold r ≡ fitted (columnOf lo hi) ⌝ }
+        ensures { λ r. ⌜ rangedTold r ≡ fitted (rangeFrom lo hi) ⌝ }
     {
         if integer::between(lo, Range::LOW, Range::HIGH) {
             if integer::between(hi, Range::LOW, Range::HIGH) {

@@ -16,7 +16,7 @@ use Rattle.meaning.proofs.Numbering.{length-cutRows, joined-cutRows}
 use Rattle.catalog.specs.Arrays.{widthAt, boundAt}
 use Rattle.language.specs.Legal.{LegalTable, tableAt}
 use Rattle.look.proofs.CodeLaws.{length-copies}
-use Rattle.language.specs.OutputOf.{numberBytes, tableFrame, tableFrames}
+use Rattle.language.specs.OutputOf.{numberBytes, rowsFrame, rowsFrames}
 use Rattle.report.specs.Lines.{Grown, TableLined, Tabled, TablesLined}
 use Rattle.report.proofs.LineLaws.{cells-few, grown-more, grown-none}
 
@@ -41,8 +41,8 @@ map-part f n (suc a) (x ∷ l) = map-part f n a l
 
 -- ---- the frame of a table
 
-frame-cut : (t n w : ℕ) (vs : List Value) → tableFrame t (cutRows n w vs) ≡ 0x81 ∷ t ∷ n ∷ numberBytes (map shown (take (n * w) vs))
-unfolding tableFrame
+frame-cut : (t n w : ℕ) (vs : List Value) → rowsFrame t (cutRows n w vs) ≡ 0x81 ∷ t ∷ n ∷ numberBytes (map shown (take (n * w) vs))
+unfolding rowsFrame
 frame-cut t n w vs = rw (length-cutRows n w vs, joined-cutRows n w vs)
 
 -- ---- table after table
@@ -55,7 +55,7 @@ none = record { rows = 0; columns = []; key = [] }
 pub record Reached (F : File) (vs : List Value) (at : ℕ) (out₀ : List ℕ) (t first place : ℕ) (out : List ℕ) : Type 0 where
   pub done : List (List ℕ)
   pub grown : Grown done at out₀ place out
-  pub whole : done ++ tableFrames t (cut (drop t (F .tables)) (drop first vs)) ≡ tableFrames 0 (cut (F .tables) vs)
+  pub whole : done ++ rowsFrames t (cut (drop t (F .tables)) (drop first vs)) ≡ rowsFrames 0 (cut (F .tables) vs)
   pub left : first + length (cellColumns (drop t (F .tables))) ≡ length vs
   pub near : place ≤ at + 135 * t
 
@@ -93,7 +93,7 @@ module _ {shape : List ℕ} {tables : ℕ} {cells : List ℤ} {at : ℕ} {out₀
         ap (λ (us : List Table). length (cellColumns us)) here ∙ length-append (copies (x .rows) (x .columns)) (cellColumns rest)
         ∙ ap (λ k. k + length (cellColumns rest)) (length-copies (x .rows) (x .columns) ∙ sym size) in
         let inside : first + rows * columns ≤ length vs = omega (arith, R .left, split) in
-        let own : 0x81 ∷ t ∷ rows ∷ numberBytes (take (rows * columns) (drop first cells)) ≡ tableFrame t (cutRows (x .rows) w (drop first vs)) =
+        let own : 0x81 ∷ t ∷ rows ∷ numberBytes (take (rows * columns) (drop first cells)) ≡ rowsFrame t (cutRows (x .rows) w (drop first vs)) =
         ap (λ (l : List ℤ). 0x81 ∷ t ∷ rows ∷ numberBytes l)
         (sym (part-take (rows * columns) first (length vs) cells inside) ∙ ap (λ (l : List ℤ). take (rows * columns) (drop first l)) (T .shows)
         ∙ sym (map-part shown (rows * columns) first vs))
@@ -101,14 +101,14 @@ module _ {shape : List ℕ} {tables : ℕ} {cells : List ℤ} {at : ℕ} {out₀
         let g = L .lined few (omega (arith, inside, T .room)) (omega (arith, R .near, room, S .size, T .legal .relationCount, T .number, h)) in
         let next : t + 1 ≡ suc t = omega arith in
         let behind : drop (first + rows * columns) vs ≡ drop (x .rows * w) (drop first vs) = ap (λ k. drop (first + k) vs) size ∙ sym (drop-drop (x .rows * w) first vs) in
-        let f = tableFrame t (cutRows (x .rows) w (drop first vs)) in
-        let frames : tableFrames t (cut (drop t ts) (drop first vs)) ≡ f ∷ tableFrames (t + 1) (cut (drop (t + 1) ts) (drop (first + rows * columns) vs)) =
-        ap (λ (us : List Table). tableFrames t (cut us (drop first vs))) here
-        ∙ ap₂ (λ (i : ℕ) (us : List Value). f ∷ tableFrames i (cut (drop i ts) us)) (sym next) (sym behind) in
+        let f = rowsFrame t (cutRows (x .rows) w (drop first vs)) in
+        let frames : rowsFrames t (cut (drop t ts) (drop first vs)) ≡ f ∷ rowsFrames (t + 1) (cut (drop (t + 1) ts) (drop (first + rows * columns) vs)) =
+        ap (λ (us : List Table). rowsFrames t (cut us (drop first vs))) here
+        ∙ ap₂ (λ (i : ℕ) (us : List Value). f ∷ rowsFrames i (cut (drop i ts) us)) (sym next) (sym behind) in
         record {
           done = R .done ++ (f ∷ []);
           grown = grown-more (R .grown) (rw own at g);
-          whole = append-assoc (R .done) (f ∷ []) (tableFrames (t + 1) (cut (drop (t + 1) ts) (drop (first + rows * columns) vs)))
+          whole = append-assoc (R .done) (f ∷ []) (rowsFrames (t + 1) (cut (drop (t + 1) ts) (drop (first + rows * columns) vs)))
               ∙ ap (λ (fs : List (List ℕ)). R .done ++ fs) (sym frames) ∙ R .whole;
           left = ap (λ i. first + rows * columns + length (cellColumns (drop i ts))) next ∙ omega (arith, R .left, split);
           near = omega (arith, L .near, R .near);
@@ -128,7 +128,7 @@ module _ {shape : List ℕ} {tables : ℕ} {cells : List ℤ} {at : ℕ} {out₀
         let R = S .reached F vs T room in
         let e : t ≡ length (F .tables) = omega (arith, S .within, T .number) in
         let none : drop t (F .tables) ≡ [] = ap (λ i. drop i (F .tables)) e ∙ drop-length (F .tables) in
-        let whole : R .done ≡ tableFrames 0 (cut (F .tables) vs) =
-        sym (append-nil (R .done)) ∙ ap (λ (ts : List Table). R .done ++ tableFrames t (cut ts (drop first vs))) (sym none) ∙ R .whole in
+        let whole : R .done ≡ rowsFrames 0 (cut (F .tables) vs) =
+        sym (append-nil (R .done)) ∙ ap (λ (ts : List Table). R .done ++ rowsFrames t (cut ts (drop first vs))) (sym none) ∙ R .whole in
         rw whole at (R .grown);
   }

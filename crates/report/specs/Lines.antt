@@ -11,7 +11,7 @@ use Rattle.meaning.specs.Look.{Answer}
 use Rattle.text.specs.Text.{textOf}
 use Rattle.catalog.specs.Arrays.{widthAt, boundAt}
 use Rattle.language.specs.Legal.{Legal, tableAt}
-use Rattle.language.specs.OutputOf.{numberBytes, tableFrames, answerFrames, outputRoom}
+use Rattle.language.specs.OutputOf.{numberBytes, rowsFrames, answerFrames, outputRoom}
 
 -- ---- lines one after the other
 
@@ -44,7 +44,7 @@ pub record Tabled (F : File) (vs : List Value) (shape : List ℕ) (tables : ℕ)
   pub shows : take (length vs) cells ≡ map shown vs
 
 pub record TablesLined (shape : List ℕ) (tables : ℕ) (cells : List ℤ) (at : ℕ) (out : List ℕ) (r : ℕ) (out′ : List ℕ) : Type 0 where
-  pub lined : (F : File) (vs : List Value) → Tabled F vs shape tables cells → at + 2160 ≤ length out → Grown (tableFrames 0 (cut (F .tables) vs)) at out r out′
+  pub lined : (F : File) (vs : List Value) → Tabled F vs shape tables cells → at + 2160 ≤ length out → Grown (rowsFrames 0 (cut (F .tables) vs)) at out r out′
 
 -- the lines of case k of a file, whose cells these are
 pub record CaseLined (shape : List ℕ) (tables k : ℕ) (shownCells : List ℤ) (out : List ℕ) (r : ℕ) (out′ : List ℕ) : Type 0 where

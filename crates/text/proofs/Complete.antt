@@ -12,7 +12,7 @@ use lib.ListN.{length, length-append}
 use borrow.Author.Tests.{eqb-true, eqb-false, ltb-true, ltb-false}
 use Rattle.value.specs.Bag.{All}
 use Rattle.value.proofs.Decides.{by-test}
-use Rattle.text.specs.Text.{Lines, frames, refused, hexValue, State, between, half, wrong, lineAfter, closed, step, run, ended, linesOf, framesOf, hex, line, textOf, Frame, FirstWrong, Gives, accepted, empty, long, wrong-line}
+use Rattle.text.specs.Text.{Lines, frames, refused, hexValue, State, between, half, wrong, lineAfter, closed, step, readOn, ended, linesOf, framesOf, hex, line, textOf, Frame, FirstWrong, Gives, accepted, empty, long, wrong-line}
 use Rattle.text.proofs.Runs.{run-text}
 use Rattle.text.proofs.Laws.{Stuck, Spelt, stuck-half, spelt-whole, text-long, reads-back, only-such}
 use Rattle.text.proofs.Refusals.{empty-refused, long-refused, lines-within, refusal-number, empty-or-long, first-wrong}
@@ -52,10 +52,10 @@ module _ (gs : List (List ℕ)) where
       go false = later done
   step-behind (wrong k) c = refl
 
-  run-behind : (s : State) (cs : List ℕ) → run (behindAll gs s) cs ≡ behindAll gs (run s cs)
-  unfolding run
+  run-behind : (s : State) (cs : List ℕ) → readOn (behindAll gs s) cs ≡ behindAll gs (readOn s cs)
+  unfolding readOn
   run-behind s [] = refl
-  run-behind s (c ∷ cs) = ap (λ (t : State). run t cs) (step-behind s c) ∙ run-behind (step s c) cs
+  run-behind s (c ∷ cs) = ap (λ (t : State). readOn t cs) (step-behind s c) ∙ run-behind (step s c) cs
 
 -- ---- a rest that begins with no frame's line is wrong at its first line
 
@@ -86,10 +86,10 @@ pub wrong-refused : {k : ℕ} {text : List ℕ} → FirstWrong k text → length
 unfolding linesOf
 wrong-refused {k} {text} w few =
     lines-within text (omega (arith, w .some, ap length (w .text-is), length-append (textOf (w .before)) (w .rest))) few
-    ∙ ap (λ (l : List ℕ). ended (run (between [] []) l)) (w .text-is)
+    ∙ ap (λ (l : List ℕ). ended (readOn (between [] []) l)) (w .text-is)
     ∙ ap ended (run-text [] (w .before) (w .rest) (w .well))
-    ∙ ap ended (ap (λ (l : List (List ℕ)). run (between l []) (w .rest)) (sym (append-nil (w .before))) ∙ run-behind (w .before) (between [] []) (w .rest))
-    ∙ ends-wrong (w .wrong) (w .before) (w .some) (run (between [] []) (w .rest)) (spelt-whole (w .rest))
+    ∙ ap ended (ap (λ (l : List (List ℕ)). readOn (between l []) (w .rest)) (sym (append-nil (w .before))) ∙ run-behind (w .before) (between [] []) (w .rest))
+    ∙ ends-wrong (w .wrong) (w .before) (w .some) (readOn (between [] []) (w .rest)) (spelt-whole (w .rest))
     ∙ ap (refused 2) (sym (w .line-is))
 
 -- ---- the whole

@@ -10,14 +10,14 @@ use lib.Dec.{ltb, eqb}
 use lib.ListN.{length, length-append}
 use borrow.Author.Tests.{le-ltb, ne-eqb, eqb-true, ltb-true}
 use Rattle.value.specs.Bag.{All}
-use Rattle.text.specs.Text.{frames, refused, hexValue, State, between, half, wrong, lineAfter, closed, step, run, ended, linesOf, framesOf, hexDigit, hex, line, textOf, Frame}
+use Rattle.text.specs.Text.{frames, refused, hexValue, State, between, half, wrong, lineAfter, closed, step, readOn, ended, linesOf, framesOf, hexDigit, hex, line, textOf, Frame}
 use Rattle.text.proofs.Digits.{hex-of-digit}
 use Rattle.text.proofs.Runs.{no, run-text}
 
 -- ---- what is written is read
 
-run-whole : (fs : List (List ℕ)) → All Frame fs → run (between [] []) (textOf fs) ≡ between fs []
-unfolding run
+run-whole : (fs : List (List ℕ)) → All Frame fs → readOn (between [] []) (textOf fs) ≡ between fs []
+unfolding readOn
 run-whole fs h = rw (append-nil (textOf fs)) at (run-text [] fs [] h)
 
 -- a text has at least as many characters as lines
@@ -148,12 +148,12 @@ step-spelt (half done frame d) text c h = go (ltb (hexValue c) 16) refl
     go false e = stuck-more c (stuck-half h)
 step-spelt (wrong k) text c h = stuck-more c h
 
-run-spelt : (s : State) (text cs : List ℕ) → Spelt s text → Spelt (run s cs) (text ++ cs)
-unfolding run
+run-spelt : (s : State) (text cs : List ℕ) → Spelt s text → Spelt (readOn s cs) (text ++ cs)
+unfolding readOn
 run-spelt s text [] h = rw (append-nil text) h
 run-spelt s text (c ∷ cs) h = rw append-assoc at (run-spelt (step s c) (text ++ c ∷ []) cs (step-spelt s text c h))
 
-pub spelt-whole : (text : List ℕ) → Spelt (run (between [] []) text) text
+pub spelt-whole : (text : List ℕ) → Spelt (readOn (between [] []) text) text
 unfolding textOf hex
 spelt-whole text = run-spelt (between [] []) [] text (record { spelt = refl; all = All.nil; bytes = All.nil; few = omega arith })
 
@@ -171,10 +171,10 @@ pub only-such : (text : List ℕ) (fs : List (List ℕ)) → framesOf text ≡ f
 unfolding framesOf linesOf
 only-such text fs = go (eqb (length text) 0) (ltb 8192 (length text))
   where
-    go : (p q : Bool) → cond p (refused 1 0) (cond q (refused 1 0) (ended (run (between [] []) text))) ≡ frames fs → (text ≡ textOf fs) × All Frame fs
+    go : (p q : Bool) → cond p (refused 1 0) (cond q (refused 1 0) (ended (readOn (between [] []) text))) ≡ frames fs → (text ≡ textOf fs) × All Frame fs
     go true q e = no cc
     go false true e = no cc
-    go false false e = ended-frames (run (between [] []) text) text e (spelt-whole text)
+    go false false e = ended-frames (readOn (between [] []) text) text e (spelt-whole text)
 
 -- ---- the end of the text where a line is not closed
 

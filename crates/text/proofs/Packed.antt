@@ -12,7 +12,7 @@ use lib.ListN.{length, getD, take, drop, set, length-append, length-drop, length
 use lib.Seq.{take-set-le, take-suc-set, drop-set-add, drop-set-lt, take-add, drop-drop}
 use borrow.Author.Tests.{eq-eqb, ne-eqb}
 use Rattle.value.proofs.Places.{from-byte}
-use Rattle.text.specs.Text.{Lines, frames, refused, between, lineAfter, run, ended, linesOf}
+use Rattle.text.specs.Text.{Lines, frames, refused, between, lineAfter, readOn, ended, linesOf}
 use Rattle.text.specs.Pair.{PairRead, pairOf}
 use Rattle.text.specs.Answers.{pack, Decoded, Blank}
 use Rattle.text.specs.declared.Frames.{Frames}
@@ -41,7 +41,7 @@ opened-bytes bytes from size v h =
 pub record Here (text : List ℕ) (r : Frames) (at size : ℕ) : Type 0 where
   pub done : List (List ℕ)
   pub frame : List ℕ
-  pub left : run (between [] []) text ≡ run (between done frame) (drop at text)
+  pub left : readOn (between [] []) text ≡ readOn (between done frame) (drop at text)
   pub packed : take (r .used) (r .bytes) ≡ pack done
   pub used-is : r .used ≡ length (pack done)
   pub opened : take size (drop (r .used + 1) (r .bytes)) ≡ frame
@@ -80,9 +80,9 @@ module _ {text : List ℕ} {r : Frames} {at size : ℕ} (h : Here text r at size
   refuses e = subst⁻¹ (λ (l : Lines). Decoded l r) e (record { number = h .number-is; line = h .line-is })
 
   -- what is left begins with a character, and gives what it gives
-  ends : at < length text → (l : Lines) → ended (run (between (h .done) (h .frame)) (getD text at 0 ∷ drop (at + 1) text)) ≡ l → linesOf text ≡ l
+  ends : at < length text → (l : Lines) → ended (readOn (between (h .done) (h .frame)) (getD text at 0 ∷ drop (at + 1) text)) ≡ l → linesOf text ≡ l
   unfolding linesOf
-  ends k l e = ap ended (h .left ∙ ap (run (between (h .done) (h .frame))) (from-byte text at k)) ∙ e
+  ends k l e = ap ended (h .left ∙ ap (readOn (between (h .done) (h .frame))) (from-byte text at k)) ∙ e
 
   pub empty-line : at < length text → getD text at 0 ≡ 10 → size ≡ 0 → Decoded (linesOf text) r
   empty-line k c z = refuses (ends k _ (run-empty _ _ _ _ (eq-eqb _ 10 c) (nil (h .frame) (omega (arith, h .size-is)))))
@@ -132,7 +132,7 @@ module _ {text : List ℕ} {r : Frames} {at size : ℕ} (h : Here text r at size
       record {
         done = h .done ++ h .frame ∷ [];
         frame = [];
-        left = h .left ∙ ap (run (between (h .done) (h .frame))) (from-byte text at k) ∙ run-close (h .done) (h .frame) _ _ (eq-eqb _ 10 c) sized;
+        left = h .left ∙ ap (readOn (between (h .done) (h .frame))) (from-byte text at k) ∙ run-close (h .done) (h .frame) _ _ (eq-eqb _ 10 c) sized;
         packed = closed-bytes (r .bytes) (r .used) size (omega arith) ∙ rw (h .packed, h .opened, h .size-is, pack-snoc);
         used-is = rw pack-snoc (simp length-append (omega arith));
         opened = refl;
@@ -148,8 +148,8 @@ module _ {text : List ℕ} {r : Frames} {at size : ℕ} (h : Here text r at size
 
   -- the text is at its end
   over : length text ≤ at → linesOf text ≡ ended (between (h .done) (h .frame))
-  unfolding linesOf run
-  over k = ap ended (h .left ∙ ap (run (between (h .done) (h .frame))) (drop-of-length-le text k))
+  unfolding linesOf readOn
+  over k = ap ended (h .left ∙ ap (readOn (between (h .done) (h .frame))) (drop-of-length-le text k))
 
   pub good-end : length text ≤ at → size ≡ 0 → Decoded (linesOf text) (record { bytes = r .bytes; used = r .used; number = 0; line = r .line })
   good-end k z =

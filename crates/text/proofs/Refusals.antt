@@ -9,7 +9,7 @@ use native.Mathlib.Omega.{arith}
 use lib.Dec.{ltb, eqb}
 use lib.ListN.{length, length-append}
 use borrow.Author.Tests.{lt-ltb, le-ltb, eq-eqb, ne-eqb, eqb-true, ltb-true}
-use Rattle.text.specs.Text.{refused, hexValue, State, between, half, wrong, lineAfter, closed, step, run, ended, linesOf, framesOf, FirstWrong}
+use Rattle.text.specs.Text.{refused, hexValue, State, between, half, wrong, lineAfter, closed, step, readOn, ended, linesOf, framesOf, FirstWrong}
 use Rattle.text.proofs.Runs.{no, run-line, run-text}
 use Rattle.text.proofs.Laws.{Stuck, spelt-whole, ended-stuck}
 
@@ -41,8 +41,8 @@ step-later (half done frame d) c = go (ltb (hexValue c) 16)
     go false = omega arith
 step-later (wrong k) c = omega arith
 
-run-later : (s : State) (cs : List ℕ) → lineOf s ≤ lineOf (run s cs)
-unfolding run
+run-later : (s : State) (cs : List ℕ) → lineOf s ≤ lineOf (readOn s cs)
+unfolding readOn
 run-later s [] = le-refl _
 run-later s (c ∷ cs) = le-trans (step-later s c) (run-later (step s c) cs)
 
@@ -59,10 +59,10 @@ module _ (text : List ℕ) where
   unfolding framesOf linesOf
   refusal-number n k = go (eqb (length text) 0) (ltb 8192 (length text))
     where
-      go : (p q : Bool) → cond p (refused 1 0) (cond q (refused 1 0) (ended (run (between [] []) text))) ≡ refused n k → (n ≡ 1) ⊎ (n ≡ 2)
+      go : (p q : Bool) → cond p (refused 1 0) (cond q (refused 1 0) (ended (readOn (between [] []) text))) ≡ refused n k → (n ≡ 1) ⊎ (n ≡ 2)
       go true q e = inl cc
       go false true e = inl cc
-      go false false e = inr (ended-stuck (run (between [] []) text) text e (spelt-whole text) .0)
+      go false false e = inr (ended-stuck (readOn (between [] []) text) text e (spelt-whole text) .0)
 
   -- "1, empty or over 8,192 bytes"
   pub empty-or-long : (k : ℕ) → framesOf text ≡ refused 1 k → (k ≡ 0) × ((length text ≡ 0) ⊎ (8192 < length text))
@@ -70,11 +70,11 @@ module _ (text : List ℕ) where
   empty-or-long k = go (eqb (length text) 0) refl (ltb 8192 (length text)) refl
     where
       go : (p : Bool) → eqb (length text) 0 ≡ p → (q : Bool) → ltb 8192 (length text) ≡ q
-          → cond p (refused 1 0) (cond q (refused 1 0) (ended (run (between [] []) text))) ≡ refused 1 k → (k ≡ 0) × ((length text ≡ 0) ⊎ (8192 < length text))
+          → cond p (refused 1 0) (cond q (refused 1 0) (ended (readOn (between [] []) text))) ≡ refused 1 k → (k ≡ 0) × ((length text ≡ 0) ⊎ (8192 < length text))
       go true a q b e = (cc, inl (eqb-true (length text) 0 a))
       go false a true b e = (cc, inr (ltb-true 8192 (length text) b))
       go false a false b e =
-          let z : _≡_ {A = ℕ} 1 2 = ended-stuck (run (between [] []) text) text e (spelt-whole text) .0 in
+          let z : _≡_ {A = ℕ} 1 2 = ended-stuck (readOn (between [] []) text) text e (spelt-whole text) .0 in
           absurd (omega arith)
 
   pub empty-refused : length text ≡ 0 → framesOf text ≡ refused 1 0
@@ -91,7 +91,7 @@ module _ (text : List ℕ) where
 
   -- ---- "2 (line), digits, pairs, length or LF wrong, the first such line"
 
-  stuck-first : (k : ℕ) → ended (run (between [] []) text) ≡ refused 2 k → Stuck k text → FirstWrong k text
+  stuck-first : (k : ℕ) → ended (readOn (between [] []) text) ≡ refused 2 k → Stuck k text → FirstWrong k text
   stuck-first k e h =
       record {
         before = h .done;
@@ -101,13 +101,13 @@ module _ (text : List ℕ) where
         line-is = h .line-is;
         some = h .some;
         wrong = λ f more well q.
-            let passed : run (between [] []) text ≡ run (between (h .done ++ f ∷ []) []) more =
-            ap (run (between [] [])) (h .spelt)
+            let passed : readOn (between [] []) text ≡ readOn (between (h .done ++ f ∷ []) []) more =
+            ap (readOn (between [] [])) (h .spelt)
             ∙ run-text [] (h .done) (h .rest) (h .all)
-            ∙ ap (run (between (h .done) [])) q
+            ∙ ap (readOn (between (h .done) [])) q
             ∙ run-line (h .done) f more well in
-            let l : lineOf (run (between (h .done ++ f ∷ []) []) more) ≡ k = ap lineOf (sym passed) ∙ ended-line (run (between [] []) text) e in
-            let m : lineAfter (h .done ++ f ∷ []) ≤ lineOf (run (between (h .done ++ f ∷ []) []) more) = run-later (between (h .done ++ f ∷ []) []) more in
+            let l : lineOf (readOn (between (h .done ++ f ∷ []) []) more) ≡ k = ap lineOf (sym passed) ∙ ended-line (readOn (between [] []) text) e in
+            let m : lineAfter (h .done ++ f ∷ []) ≤ lineOf (readOn (between (h .done ++ f ∷ []) []) more) = run-later (between (h .done ++ f ∷ []) []) more in
             omega (arith, l, m, h .line-is, length-append (h .done) (f ∷ []));
       }
 
@@ -115,7 +115,7 @@ module _ (text : List ℕ) where
   unfolding framesOf linesOf
   first-wrong k = go (eqb (length text) 0) (ltb 8192 (length text))
     where
-      go : (p q : Bool) → cond p (refused 1 0) (cond q (refused 1 0) (ended (run (between [] []) text))) ≡ refused 2 k → FirstWrong k text
+      go : (p q : Bool) → cond p (refused 1 0) (cond q (refused 1 0) (ended (readOn (between [] []) text))) ≡ refused 2 k → FirstWrong k text
       go true q e = let z : _≡_ {A = ℕ} 1 2 = cc in absurd (omega arith)
       go false true e = let z : _≡_ {A = ℕ} 1 2 = cc in absurd (omega arith)
-      go false false e = stuck-first k e (ended-stuck (run (between [] []) text) text e (spelt-whole text) .1)
+      go false false e = stuck-first k e (ended-stuck (readOn (between [] []) text) text e (spelt-whole text) .1)

@@ -90,9 +90,9 @@ step (between done frame) c = cond (eqb c 10) (closed done frame) (opened done f
 step (half done frame d) c = cond (ltb (hexValue c) 16) (between done (frame ++ (16 * d + hexValue c) ∷ [])) (wrong (lineAfter done))
 step (wrong k) c = wrong k
 
-unfoldable pub run : State → List ℕ → State
-run s [] = s
-run s (c ∷ cs) = run (step s c) cs
+unfoldable pub readOn : State → List ℕ → State
+readOn s [] = s
+readOn s (c ∷ cs) = readOn (step s c) cs
 
 -- the end of the text: only behind a LF is it well
 abbrev pub ended : State → Lines
@@ -102,7 +102,7 @@ ended (half done frame d) = refused 2 (lineAfter done)
 ended (wrong k) = refused 2 k
 
 unfoldable pub linesOf : List ℕ → Lines
-linesOf text = ended (run (between [] []) text)
+linesOf text = ended (readOn (between [] []) text)
 
 unfoldable pub framesOf : List ℕ → Lines
 framesOf text = cond (eqb (length text) 0) (refused 1 0) (cond (ltb 8192 (length text)) (refused 1 0) (linesOf text))

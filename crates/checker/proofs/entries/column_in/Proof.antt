@@ -6,7 +6,7 @@ use mir.Facts.{toZ-ofZ}
 use borrow.Author.Needs.{needs}
 use Rattle.value.specs.Value.{Column}
 use Rattle.value.specs.Machine.{columnOf}
-use Rattle.range.specs.Ranges.{columnOf as rangeOf}
+use Rattle.range.specs.Ranges.{rangeFrom as rangeOf}
 use Rattle.checker.specs.Entries.{columnIn}
 use Rattle.checker.proofs.entries.column_in.Statement.{statement}
 use Rattle.checker.proofs.entries.column_in.Tie as tie
