@@ -11,7 +11,8 @@ ghost use Rattle.cases.specs.Judgement.{memoryFrom, SignNoted, RowsNoted
 
 // Whether view v is negative, if it is asked.
 fn note_sign(frame: &[u8], shape: &[u8], counts: &[u8], signs: &mut [u8], work: &mut [i32], v: u8)
-    ensures { λ _. ⌜ SignNoted (now (frame .entry)) (now (shape .entry)) (memoryFrom (now (counts .entry)) (now (signs .entry)) (now (work .entry))) v (now (signs .exit)) (now (work .exit)) ⌝ }
+    ensures { λ _. ⌜ SignNoted (now (frame .entry)) (now (shape .entry))
+        (memoryFrom (now (counts .entry)) (now (signs .entry)) (now (work .entry))) v (now (signs .exit)) (now (work .exit)) ⌝ }
 {
     if !arrays::is_asked(shape, v) {
         return;
@@ -42,7 +43,9 @@ pub fn evaluate(
     signs: &mut [u8],
     work: &mut [i32],
 )
-    ensures { λ _. ⌜ Evaluates (sourceFrom (now (bytes .entry)) (now (shape .entry)) o) (memoryFrom (now (counts .entry)) (now (signs .entry)) (now (work .entry))) (memoryFrom (now (counts .exit)) (now (signs .exit)) (now (work .exit))) ⌝ }
+    ensures { λ _. ⌜ Evaluates (sourceFrom (now (bytes .entry)) (now (shape .entry)) o)
+        (memoryFrom (now (counts .entry)) (now (signs .entry)) (now (work .entry)))
+        (memoryFrom (now (counts .exit)) (now (signs .exit)) (now (work .exit))) ⌝ }
 {
     let mut v = o.tables;
     while v < o.relations {
@@ -75,7 +78,9 @@ pub fn is_case(
     signs: &mut [u8],
     work: &mut [i32],
 ) -> bool
-    ensures { λ r. ⌜ IsCase (sourceFrom (now (bytes .entry)) (now (shape .entry)) o) goal (memoryFrom (now (counts .entry)) (now (signs .entry)) (now (work .entry))) r (memoryFrom (now (counts .exit)) (now (signs .exit)) (now (work .exit))) ⌝ }
+    ensures { λ r. ⌜ IsCase (sourceFrom (now (bytes .entry)) (now (shape .entry)) o) goal
+        (memoryFrom (now (counts .entry)) (now (signs .entry)) (now (work .entry))) r
+        (memoryFrom (now (counts .exit)) (now (signs .exit)) (now (work .exit))) ⌝ }
 {
     if !o.filled {
         return false;

@@ -110,24 +110,26 @@ ready {F} {memory = memory} {k = k} P A = record {
   signs-size = A .signs-size;
 }
 
-module _ {source : Source} {g : Goal} {k : ℕ} {memory memory′ : Memory} {b : Bool} (J : IsCase source g memory b memory′) where
-  pub judged : (F : File) {ends : List ℤ} → Setting F source ends g → At F memory k → b ≡ isCaseAt F k
-  unfolding isCaseAt
-  judged F P A = subst (λ x. Ready F x (database F k) source memory → b ≡ isCase F x (database F k)) (P .goal) (J .case (P .file)) (ready P A)
+pub judged : {source : Source} {g : Goal} {k : ℕ} {memory memory′ : Memory} {b : Bool} → IsCase source g memory b memory′
+    → (F : File) {ends : List ℤ} → Setting F source ends g → At F memory k → b ≡ isCaseAt F k
+unfolding isCaseAt
+judged {source} {k = k} {memory} {b = b} J F P A =
+    subst (λ x. Ready F x (database F k) source memory → b ≡ isCase F x (database F k)) (P .goal) (J .case (P .file)) (ready P A)
 
-  pub tests-case : {start : ℕ} → k < 18446744073709551615 → b ≡ true → Tested source g start k memory k memory′
+module _ {source : Source} {s : Span} {k : ℕ} {memory memory′ : Memory} {b : Bool} (J : IsCase source (s .goal) memory b memory′) where
+  pub tests-case : k < 18446744073709551615 → b ≡ true → Tested source s k memory k memory′
   tests-case l e = record {
     kept = J .kept;
     bound = omega arith;
     follows = omega arith;
     passed = λ F P A. record {
       follows = omega arith;
-      hit = λ _. sym (judged F P A) ∙ e;
+      hit = λ _. sym (judged J F P A) ∙ e;
       over = λ j a c p. absurd (omega arith);
     };
   }
 
-  pub tests-none : {start : ℕ} → k < 18446744073709551615 → b ≡ false → Tested source g start k memory (k + 1) memory′
+  pub tests-none : k < 18446744073709551615 → b ≡ false → Tested source s k memory (k + 1) memory′
   tests-none l e = record {
     kept = J .kept;
     bound = omega arith;
@@ -135,7 +137,7 @@ module _ {source : Source} {g : Goal} {k : ℕ} {memory memory′ : Memory} {b :
     passed = λ F P A. record {
       follows = omega arith;
       hit = λ q. absurd (omega arith);
-      over = λ j a c p. let q : j ≡ k = omega arith in never (subst (λ i. isCaseAt F i ≡ true) q p) (sym (judged F P A) ∙ e);
+      over = λ j a c p. let q : j ≡ k = omega arith in never (subst (λ i. isCaseAt F i ≡ true) q p) (sym (judged J F P A) ∙ e);
     };
   }
 
@@ -162,7 +164,7 @@ module _ {source : Source} {ends : List ℤ} {codes : List ℕ} {s : Span} {memo
     none = λ F P D A j a b. absurd (omega arith);
   }
 
-  module _ {k r : ℕ} {memory₁ memory₂ : Memory} (S : Scanned source ends codes s memory k memory₁) (T : Tested source (s .goal) (s .start) k memory₁ r memory₂) where
+  module _ {k r : ℕ} {memory₁ memory₂ : Memory} (S : Scanned source ends codes s memory k memory₁) (T : Tested source s k memory₁ r memory₂) where
     pub scanned-more : (r ≡ k → ⊥) → {work₃ : List ℤ} → Moved (source .shape) ends codes (s .cells) k r (memory₂ .work) work₃
         → Scanned source ends codes s memory r (memoryFrom (memory₂ .counts) (memory₂ .signs) work₃)
     scanned-more d M = record {

@@ -41,12 +41,12 @@ pub record At (F : File) (memory : Memory) (k : ℕ) : Type 0 where
 
 -- ---- what the code gives
 
--- of candidate k in a search from `start`
-pub record Tested (source : Source) (g : Goal) (start k : ℕ) (memory : Memory) (r : ℕ) (memory′ : Memory) : Type 0 where
+-- of candidate k in the search of a span
+pub record Tested (source : Source) (s : Span) (k : ℕ) (memory : Memory) (r : ℕ) (memory′ : Memory) : Type 0 where
   pub kept : TablesKept (source .outline .tables) memory memory′
   pub bound : r ≤ 18446744073709551615
   pub follows : k ≤ r
-  pub passed : (F : File) {ends : List ℤ} → Setting F source ends g → At F memory k → Passed (isCaseAt F) start k r
+  pub passed : (F : File) {ends : List ℤ} → Setting F source ends (s .goal) → At F memory k → Passed (isCaseAt F) (s .start) k r
 
 -- r is the first case of the span or its end, and the cells of a case stand in the work area
 pub record FirstFound (F : File) (s : Span) (r : ℕ) (work : List ℤ) : Type 0 where

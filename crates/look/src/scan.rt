@@ -30,7 +30,9 @@ fn tested(
     work: &mut [i32],
 ) -> u64
     requires { ⌜ k < 18446744073709551615 ⌝ }
-    ensures { λ r. ⌜ Tested (sourceFrom (now (bytes .entry)) (now (shape .entry)) (s .outline)) (s .goal) (s .start) k (memoryFrom (now (counts .entry)) (now (signs .entry)) (now (work .entry))) r (memoryFrom (now (counts .exit)) (now (signs .exit)) (now (work .exit))) ⌝ }
+    ensures { λ r. ⌜ Tested (sourceFrom (now (bytes .entry)) (now (shape .entry)) (s .outline)) s k
+        (memoryFrom (now (counts .entry)) (now (signs .entry)) (now (work .entry))) r
+        (memoryFrom (now (counts .exit)) (now (signs .exit)) (now (work .exit))) ⌝ }
 {
     if judgement::is_case(bytes, shape, s.outline, s.goal, counts, signs, work) {
         return k;
@@ -49,7 +51,8 @@ fn scan(
     signs: &mut [u8],
     work: &mut [i32],
 ) -> u64
-    ensures { λ r. ⌜ Scans (sourceFrom (now (bytes .entry)) (now (shape .entry)) (s .outline)) (now (ends .entry)) (now (codes .entry)) s (memoryFrom (now (counts .entry)) (now (signs .entry)) (now (work .entry))) r (now (work .exit)) ⌝ }
+    ensures { λ r. ⌜ Scans (sourceFrom (now (bytes .entry)) (now (shape .entry)) (s .outline)) (now (ends .entry)) (now (codes .entry)) s
+        (memoryFrom (now (counts .entry)) (now (signs .entry)) (now (work .entry))) r (now (work .exit)) ⌝ }
 {
     let mut k = s.start;
     while k < s.end {
@@ -73,7 +76,8 @@ pub fn search(
     s: Span,
     work: &mut [i32],
 ) -> u64
-    ensures { λ r. ⌜ Searched (sourceFrom (now (bytes .entry)) (now (shape .entry)) (s .outline)) (now (ends .entry)) (now (codes .entry)) s (now (work .entry)) r (now (work .exit)) ⌝ }
+    ensures { λ r. ⌜ Searched (sourceFrom (now (bytes .entry)) (now (shape .entry)) (s .outline)) (now (ends .entry)) (now (codes .entry)) s
+        (now (work .entry)) r (now (work .exit)) ⌝ }
 {
     let mut counts = [0u8; 16];
     outline::count_tables(shape, s.outline.tables, &mut counts);

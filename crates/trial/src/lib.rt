@@ -18,7 +18,8 @@ fn every_relation(
     counts: &mut [u8],
     work: &mut [i32],
 ) -> bool
-    ensures { λ r. ⌜ EveryRelation (sourceFrom (now (bytes .entry)) (now (shape .entry)) o) goal (now (counts .entry)) (now (work .entry)) r (now (counts .exit)) (now (work .exit)) ⌝ }
+    ensures { λ r. ⌜ EveryRelation (sourceFrom (now (bytes .entry)) (now (shape .entry)) o) goal
+        (now (counts .entry)) (now (work .entry)) r (now (counts .exit)) (now (work .exit)) ⌝ }
 {
     outline::count_tables(shape, o.tables, counts);
     needs::needs_of(bytes, shape, o, goal);
