@@ -26,7 +26,7 @@ use Rattle.store.specs.Layout.{area}
 use Rattle.cases.specs.Needs.{Wants, NeedsOf}
 use Rattle.cases.specs.Judgement.{Memory, memoryFrom}
 use Rattle.look.specs.Cells.{CellsOf}
-use Rattle.look.specs.Moves.{CandidatePut, Moved}
+use Rattle.look.specs.Moves.{placesFrom, CandidatePut, Moved}
 use Rattle.look.specs.Scans.{Setting}
 use Rattle.look.specs.Evaluations.{Prepared, flaggedSource, Evaluated, Judged, RowsMean}
 use Rattle.look.proofs.Standing.{digits-given}
@@ -43,7 +43,7 @@ module _ (text : List ℕ) (F : File) (e : fileOf text ≡ Outcome.accepted F) w
   pub placed : (p : Plan) {k : ℕ} {codes counts shape : List ℕ} {n : ℕ} {work work′ : List ℤ} → Plans (fileOf text) p
       → CellsOf (p .shape) (p .outline .tables) (replicate 512 0) n codes → TablesCounted (p .shape) (p .outline .tables) (replicate 16 0) counts
       → NeedsOf (sourceOf p) (p .goal) shape
-      → area ≤ length work → CandidatePut (p .shape) (p .ends) codes n k work work′ → Prepared text F k
+      → area ≤ length work → CandidatePut (placesFrom (p .shape) (p .ends) codes n) k work work′ → Prepared text F k
   placed p {counts = counts} {shape} {work′ = work′} c D C N whole P =
       let M = planned c .file in
       record {
@@ -64,7 +64,7 @@ module _ (text : List ℕ) (F : File) (e : fileOf text ≡ Outcome.accepted F) w
 
     -- the next candidate is prepared by the test of this one and the move to that one
     pub moved : {r : Bool} {codes : List ℕ} {n next : ℕ} {memory′ : Memory} {work″ : List ℤ} → CellsOf (P .plan .shape) (P .plan .outline .tables) (replicate 512 0) n codes
-        → Judged P r memory′ → Moved (P .shape) (P .plan .ends) codes n k next (memory′ .work) work″ → Prepared text F next
+        → Judged P r memory′ → Moved (placesFrom (P .shape) (P .plan .ends) codes n) k next (memory′ .work) work″ → Prepared text F next
     moved {memory′ = memory′} {work″} D J M = record {
       plan = P .plan;
       shape = P .shape;

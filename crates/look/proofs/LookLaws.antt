@@ -21,7 +21,7 @@ use Rattle.checker.specs.Plans.{Plans}
 use Rattle.catalog.specs.FileIn.{sourceOf, PlanOf}
 use Rattle.catalog.specs.declared.plan.Plan.{Plan}
 use Rattle.look.specs.Cells.{codesOf, CellsOf}
-use Rattle.look.specs.Moves.{Digits}
+use Rattle.look.specs.Moves.{placesFrom, Digits}
 use Rattle.look.specs.Scans.{FirstFound, Searched}
 use Rattle.look.specs.Buffers.{Shows}
 use Rattle.look.specs.Looks.{answerOf, Concludes, Looked, LooksAt}
@@ -49,7 +49,7 @@ abbrev pub Coded : Plan → ℕ → List ℕ → Type 0
 Coded p cells codes = CellsOf (p .shape) (p .outline .tables) (replicate 512 0) cells codes
 
 module _ {p : Plan} where
-  digits : {F : File} {cells : ℕ} {codes : List ℕ} → PlanOf F p → Coded p cells codes → Digits F (p .shape) (p .ends) codes cells
+  digits : {F : File} {cells : ℕ} {codes : List ℕ} → PlanOf F p → Coded p cells codes → Digits F (placesFrom (p .shape) (p .ends) codes cells)
   digits P C = digits-given (P .file) C refl
 
   module _ {start count : ℕ} {work inst : List ℤ} where

@@ -32,8 +32,8 @@ use Rattle.cases.specs.Needs.{GoalIn, Covers, NeedsOf}
 use Rattle.cases.specs.Judgement.{Memory, memoryFrom, Ready, TablesKept, IsCase}
 use Rattle.cases.proofs.Preparing.{counts-are}
 use Rattle.look.specs.Cells.{codesOf, cellAt, cellsIn}
-use Rattle.look.specs.Moves.{Digits, CandidatePut, Moved}
-use Rattle.look.specs.Scans.{Setting, At, Tested, Scans, Searched}
+use Rattle.look.specs.Moves.{CellPlaces, placesFrom, Digits, CandidatePut, Moved}
+use Rattle.look.specs.Scans.{placesOf, Setting, At, Tested, Scans, Searched}
 use Rattle.look.specs.declared.scan.Span.{Span}
 use Rattle.look.proofs.Distinct.{Rising, rising-within, codes-inside}
 use Rattle.look.proofs.Standing.{tables-stand}
@@ -65,9 +65,9 @@ module _ {F : File} (L : Legal F) where
 -- ---- a candidate stands in the work area
 
 -- a candidate that was placed
-pub placed-at : {F : File} {source : Source} {ends : List ℤ} {codes : List ℕ} {n k : ℕ} {work work₁ : List ℤ} {counts : List ℕ} → FileIn F source ends
-    → Digits F (source .shape) ends codes n → TablesCounted (source .shape) (source .outline .tables) (replicate 16 0) counts → area ≤ length work
-    → CandidatePut (source .shape) ends codes n k work work₁ → At F (memoryFrom counts (replicate 16 0) work₁) k
+pub placed-at : {F : File} {source : Source} {ends : List ℤ} {p : CellPlaces} {k : ℕ} {work work₁ : List ℤ} {counts : List ℕ} → FileIn F source ends
+    → Digits F p → TablesCounted (source .shape) (source .outline .tables) (replicate 16 0) counts → area ≤ length work → CandidatePut p k work work₁
+    → At F (memoryFrom counts (replicate 16 0) work₁) k
 placed-at {F} G D C whole P = record {
   counts-size = C .size;
   signs-size = refl;
@@ -77,9 +77,9 @@ placed-at {F} G D C whole P = record {
 }
 
 -- the next one, after a test and a move
-pub moved-at : {F : File} {source : Source} {ends : List ℤ} {codes : List ℕ} {n k next : ℕ} {memory memory₁ : Memory} {work₂ : List ℤ} → FileIn F source ends
-    → Digits F (source .shape) ends codes n → TablesKept (source .outline .tables) memory memory₁ → Moved (source .shape) ends codes n k next (memory₁ .work) work₂
-    → At F memory k → At F (memoryFrom (memory₁ .counts) (memory₁ .signs) work₂) next
+pub moved-at : {F : File} {source : Source} {ends : List ℤ} {p : CellPlaces} {k next : ℕ} {memory memory₁ : Memory} {work₂ : List ℤ} → FileIn F source ends
+    → Digits F p → TablesKept (source .outline .tables) memory memory₁ → Moved p k next (memory₁ .work) work₂ → At F memory k
+    → At F (memoryFrom (memory₁ .counts) (memory₁ .signs) work₂) next
 moved-at {F} G D K M A = record {
   counts-size = K .counts-size ∙ A .counts-size;
   signs-size = K .signs-size ∙ A .signs-size;
@@ -149,8 +149,8 @@ pub record Scanned (source : Source) (ends : List ℤ) (codes : List ℕ) (s : S
   pub length-kept : length (memory′ .work) ≡ length (memory .work)
   pub counts-size : length (memory′ .counts) ≡ length (memory .counts)
   pub signs-size : length (memory′ .signs) ≡ length (memory .signs)
-  pub here : (F : File) → Setting F source ends (s .goal) → Digits F (source .shape) ends codes (s .cells) → At F memory (s .start) → At F memory′ k
-  pub none : (F : File) → Setting F source ends (s .goal) → Digits F (source .shape) ends codes (s .cells) → At F memory (s .start)
+  pub here : (F : File) → Setting F source ends (s .goal) → Digits F (placesOf source ends codes s) → At F memory (s .start) → At F memory′ k
+  pub none : (F : File) → Setting F source ends (s .goal) → Digits F (placesOf source ends codes s) → At F memory (s .start)
       → (j : ℕ) → s .start ≤ j → j < k → isCaseAt F j ≡ false
 
 module _ {source : Source} {ends : List ℤ} {codes : List ℕ} {s : Span} {memory : Memory} where
@@ -165,7 +165,7 @@ module _ {source : Source} {ends : List ℤ} {codes : List ℕ} {s : Span} {memo
   }
 
   module _ {k r : ℕ} {memory₁ memory₂ : Memory} (S : Scanned source ends codes s memory k memory₁) (T : Tested source s k memory₁ r memory₂) where
-    pub scanned-more : (r ≡ k → ⊥) → {work₃ : List ℤ} → Moved (source .shape) ends codes (s .cells) k r (memory₂ .work) work₃
+    pub scanned-more : (r ≡ k → ⊥) → {work₃ : List ℤ} → Moved (placesOf source ends codes s) k r (memory₂ .work) work₃
         → Scanned source ends codes s memory r (memoryFrom (memory₂ .counts) (memory₂ .signs) work₃)
     scanned-more d M = record {
       from = omega (arith, S .from, T .follows);
@@ -213,16 +213,16 @@ module _ {source : Source} {ends : List ℤ} {codes : List ℕ} {s : Span} {memo
 -- ---- the search
 
 -- the flags are no part of what tells the cells
-pub digits-kept : {F : File} {shape shape′ : List ℕ} {ends : List ℤ} {codes : List ℕ} {n : ℕ} → FirstKept 6 shape shape′ → Digits F shape ends codes n → Digits F shape′ ends codes n
-digits-kept {F} {shape} {shape′} {ends} k D = record {
+pub digits-kept : {F : File} {p : CellPlaces} {shape′ : List ℕ} → FirstKept 6 (p .shape) shape′ → Digits F p → Digits F (placesFrom shape′ (p .ends) (p .codes) (p .cells))
+digits-kept {p = p} k D = record {
   legal = D .legal;
   codes-are = D .codes-are;
-  columns = map-same _ _ (all-map (λ x h. column-kept ends k (omega arith) (x / 32) (x % 4)) (codes-tables (D .legal))) ∙ D .columns;
+  columns = map-same _ _ (all-map (λ x h. column-kept (p .ends) k (omega arith) (x / 32) (x % 4)) (codes-tables (D .legal))) ∙ D .columns;
   number = D .number;
 }
 
 pub searches : {source : Source} {shape′ : List ℕ} {ends : List ℤ} {codes : List ℕ} {s : Span} {work work₁ work₂ : List ℤ} {counts : List ℕ} {r : ℕ}
-    → TablesCounted (source .shape) (source .outline .tables) (replicate 16 0) counts → CandidatePut (source .shape) ends codes (s .cells) (s .start) work work₁
+    → TablesCounted (source .shape) (source .outline .tables) (replicate 16 0) counts → CandidatePut (placesOf source ends codes s) (s .start) work work₁
     → NeedsOf source (s .goal) shape′ → Scans (withFlags source shape′) ends codes s (memoryFrom counts (replicate 16 0) work₁) r work₂
     → Searched source ends codes s work r work₂
 searches C P N S = record {

@@ -22,7 +22,7 @@ use Rattle.store.specs.Rows.{listed, rowIn, rowsIn}
 use Rattle.store.proofs.Listed.{listed-same, length-listed, listed-getD}
 use Rattle.store.proofs.RowLaws.{rows-length}
 use Rattle.look.specs.Cells.{code, rowCodes, tableCodes, allCodes, codesOf, cellAt, cellsIn, CellsOf}
-use Rattle.look.specs.Moves.{codeColumn, Digits}
+use Rattle.look.specs.Moves.{codeColumn, placesFrom, Digits}
 use Rattle.look.proofs.CodeLaws.{codesFrom, codes-of, codes-few, codes-same, length-codes}
 
 -- ---- what a code says
@@ -114,7 +114,7 @@ length-codesOf : (F : File) → length (codesOf F) ≡ length (cellColumns (F .t
 length-codesOf F = ap length (codes-of F) ∙ length-codes 0 (F .tables)
 
 pub digits-given : {F : File} {source : Source} {ends : List ℤ} {codes codes′ : List ℕ} {r : ℕ} → FileIn F source ends
-    → CellsOf (source .shape) (source .outline .tables) codes r codes′ → length codes ≡ 512 → Digits F (source .shape) ends codes′ r
+    → CellsOf (source .shape) (source .outline .tables) codes r codes′ → length codes ≡ 512 → Digits F (placesFrom (source .shape) ends codes′ r)
 digits-given {F} {codes = codes} {r = r} M c n =
     let same = given-codes M in
     let total : r ≡ length (codesOf F) = c .total ∙ ap length same in

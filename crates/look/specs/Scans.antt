@@ -15,7 +15,7 @@ use Rattle.store.specs.Layout.{area}
 use Rattle.cases.specs.Needs.{Covers}
 use Rattle.cases.specs.Judgement.{Memory, TablesKept}
 use Rattle.look.specs.Cells.{codesOf, cellsIn}
-use Rattle.look.specs.Moves.{Digits}
+use Rattle.look.specs.Moves.{CellPlaces, placesFrom, Digits}
 use Rattle.look.specs.declared.scan.Span.{Span}
 
 -- from candidate k on to `next`, in a search from `start`: k is a case where it stays; else each case that is passed over has an earlier
@@ -24,6 +24,10 @@ pub record Passed (p : ℕ → Bool) (start k next : ℕ) : Type 0 where
   pub follows : k ≤ next
   pub hit : next ≡ k → p k ≡ true
   pub over : (j : ℕ) → k ≤ j → j < next → p j ≡ true → (i : ℕ) × (start ≤ i) × (i < k) × (p i ≡ true)
+
+-- where the cells of a search's candidates stand
+abbrev pub placesOf : Source → List ℤ → List ℕ → Span → CellPlaces
+placesOf source ends codes s = placesFrom (source .shape) ends codes (s .cells)
 
 -- what the search of a file rests on
 pub record Setting (F : File) (source : Source) (ends : List ℤ) (g : Goal) : Type 0 where
@@ -55,10 +59,10 @@ pub record FirstFound (F : File) (s : Span) (r : ℕ) (work : List ℤ) : Type 0
 
 pub record Scans (source : Source) (ends : List ℤ) (codes : List ℕ) (s : Span) (memory : Memory) (r : ℕ) (work′ : List ℤ) : Type 0 where
   pub length-kept : length work′ ≡ length (memory .work)
-  pub found : (F : File) → Setting F source ends (s .goal) → Digits F (source .shape) ends codes (s .cells) → At F memory (s .start) → s .start ≤ s .end
+  pub found : (F : File) → Setting F source ends (s .goal) → Digits F (placesOf source ends codes s) → At F memory (s .start) → s .start ≤ s .end
       → FirstFound F s r work′
 
 pub record Searched (source : Source) (ends : List ℤ) (codes : List ℕ) (s : Span) (work : List ℤ) (r : ℕ) (work′ : List ℤ) : Type 0 where
   pub length-kept : length work′ ≡ length work
-  pub found : (F : File) → FileIn F source ends → goalOf (s .goal) ≡ F .goal → Digits F (source .shape) ends codes (s .cells) → area ≤ length work
+  pub found : (F : File) → FileIn F source ends → goalOf (s .goal) ≡ F .goal → Digits F (placesOf source ends codes s) → area ≤ length work
       → s .start ≤ s .end → FirstFound F s r work′
