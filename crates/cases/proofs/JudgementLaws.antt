@@ -21,8 +21,7 @@ use Rattle.meaning.proofs.DecidedLists.{each-length}
 use Rattle.meaning.proofs.Relations.{rows-table}
 use Rattle.catalog.specs.Arrays.{neededAt, askedAt}
 use Rattle.catalog.specs.Frames.{frameIn}
-use Rattle.catalog.specs.FileIn.{FileIn, goalOf}
-use Rattle.catalog.specs.declared.outline.Outline.{Outline}
+use Rattle.catalog.specs.FileIn.{Source, FileIn, goalOf}
 use Rattle.catalog.specs.declared.plan.Goal.{Goal as GoalHere}
 use Rattle.catalog.proofs.FileLaws.{width-is, columns-are}
 use Rattle.store.specs.Rows.{rowsIn}
@@ -31,29 +30,29 @@ use Rattle.views.proofs.Copying.{apart-same}
 use Rattle.cases.specs.Needs.{Needed, Asked}
 use Rattle.cases.specs.Relations.{columnsOf, ViewRows, IsRefuted}
 use Rattle.cases.specs.Validity.{IsValid}
-use Rattle.cases.specs.Judgement.{SignNoted, RowsNoted, Known, Ready, TablesKept, Evaluates, IsWanted, IsCase}
+use Rattle.cases.specs.Judgement.{Memory, memoryFrom, SignNoted, RowsNoted, Known, Ready, TablesKept, Evaluates, IsWanted, IsCase}
 use Rattle.cases.proofs.SignLaws.{positive}
 use Rattle.cases.proofs.FlagLaws.{no-flag}
 use Rattle.cases.proofs.Turns.{turn-known}
 
 -- ---- notes
 
-module _ {frame shape counts refuted : List ℕ} {work : List ℤ} {v : ℕ} where
-  pub sign-unasked : {b : Bool} → b ≡ eqb (askedAt shape v) 1 → b ≡ false → SignNoted frame shape counts refuted work v refuted work
+module _ {frame shape : List ℕ} {memory : Memory} {v : ℕ} where
+  pub sign-unasked : {b : Bool} → b ≡ eqb (askedAt shape v) 1 → b ≡ false → SignNoted frame shape memory v (memory .signs) (memory .work)
   sign-unasked e h = record {
-    apart = apart-same v work;
+    apart = apart-same v (memory .work);
     size = refl;
     others = λ i n. refl;
     noted = λ f l. absurd (no-flag e h f);
   }
 
-  pub sign-noted : {r : Bool} {work′ : List ℤ} {refuted′ : List ℕ} {b : ℕ} → IsRefuted frame counts refuted work v r work′ → b ≡ tick r 0 → refuted′ ≡ set refuted v b
-      → SignNoted frame shape counts refuted work v refuted′ work′
+  pub sign-noted : {r : Bool} {work′ : List ℤ} {signs′ : List ℕ} {b : ℕ} → IsRefuted frame (memory .counts) (memory .signs) (memory .work) v r work′ → b ≡ tick r 0
+      → signs′ ≡ set (memory .signs) v b → SignNoted frame shape memory v signs′ work′
   sign-noted {r} {b = b} R q e = record {
     apart = R .apart;
-    size = rw e (length-set refuted v b);
-    others = λ i n. rw e (getD-set-other refuted v i b 0 n);
-    noted = λ f l. (r, R, rw e (getD-set-same refuted v b 0 l) ∙ q ∙ tick-one r);
+    size = rw e (length-set (memory .signs) v b);
+    others = λ i n. rw e (getD-set-other (memory .signs) v i b 0 n);
+    noted = λ f l. (r, R, rw e (getD-set-same (memory .signs) v b 0 l) ∙ q ∙ tick-one r);
   }
 
 module _ {frame shape counts : List ℕ} {work : List ℤ} {v : ℕ} where
@@ -77,61 +76,56 @@ module _ {frame shape counts : List ℕ} {work : List ℤ} {v : ℕ} where
 -- ---- the loop
 
 -- the views before v are worked out
-pub record Turned (bytes shape : List ℕ) (o : Outline) (counts refuted : List ℕ) (work : List ℤ) (counts′ refuted′ : List ℕ) (work′ : List ℤ) (v : ℕ) : Type 0 where
-  pub first : o .tables ≤ v
-  pub kept : TablesKept (o .tables) counts work counts′ work′
-  pub refuted-size : length refuted′ ≡ length refuted
-  pub known : {F : File} {g : Goal} {d : Database} {ends : List ℤ} → FileIn F bytes shape ends o → Ready F g d shape counts refuted work
-      → Known F d shape counts′ refuted′ work′ v
+pub record Turned (source : Source) (memory memory′ : Memory) (v : ℕ) : Type 0 where
+  pub first : source .outline .tables ≤ v
+  pub kept : TablesKept (source .outline .tables) memory memory′
+  pub known : {F : File} {g : Goal} {d : Database} {ends : List ℤ} → FileIn F source ends → Ready F g d source memory → Known F d (source .shape) memory′ v
 
-kept-same : (tables : ℕ) (counts : List ℕ) (work : List ℤ) → TablesKept tables counts work counts work
-kept-same tables counts work = record { size = refl; table = λ t w n h. refl; counts-size = refl; count = λ t h. refl }
+kept-same : (tables : ℕ) (memory : Memory) → TablesKept tables memory memory
+kept-same tables memory = record { size = refl; counts-size = refl; signs-size = refl; table = λ t w n h. refl; count = λ t h. refl }
 
 -- the tables are known
-tables-known : {F : File} {g : Goal} {d : Database} {bytes shape : List ℕ} {ends : List ℤ} {o : Outline} {counts refuted : List ℕ} {work : List ℤ}
-    → FileIn F bytes shape ends o → Ready F g d shape counts refuted work → (v : ℕ) → v ≤ length (F .tables) → Known F d shape counts refuted work v
-tables-known {F} {d = d} {counts = counts} {work = work} G R v h = record {
+tables-known : {F : File} {g : Goal} {d : Database} {source : Source} {ends : List ℤ} {memory : Memory} → FileIn F source ends → Ready F g d source memory
+    → (v : ℕ) → v ≤ length (F .tables) → Known F d (source .shape) memory v
+tables-known {F} {d = d} {memory = memory} G R v h = record {
   rows-known = λ i l f.
       let there : i < length (F .tables) = omega arith in
-      ap (λ w. rowsIn work i w (getD counts i 0)) (sym (width-is G i) ∙ columns-are G i there) ∙ R .tables .table i there
+      ap (λ w. rowsIn (memory .work) i w (getD (memory .counts) i 0)) (sym (width-is G i) ∙ columns-are G i there) ∙ R .tables .table i there
       ∙ sym (rows-table F d i (omega (arith, each-length (R .shaped))));
   signs-known = λ i t l f. absurd (omega arith);
 }
 
-module _ {bytes shape : List ℕ} {o : Outline} {counts refuted : List ℕ} {work : List ℤ} where
-  pub turned-none : Turned bytes shape o counts refuted work counts refuted work (o .tables)
+module _ {source : Source} {memory : Memory} where
+  pub turned-none : Turned source memory memory (source .outline .tables)
   turned-none = record {
     first = omega arith;
-    kept = kept-same (o .tables) counts work;
-    refuted-size = refl;
-    known = λ G R. tables-known G R (o .tables) (omega (arith, G .tables));
+    kept = kept-same (source .outline .tables) memory;
+    known = λ G R. tables-known G R (source .outline .tables) (omega (arith, G .tables));
   }
 
-  pub turned-more : {counts₁ refuted₁ : List ℕ} {work₁ : List ℤ} {v : ℕ} {frame : List ℕ} → Turned bytes shape o counts refuted work counts₁ refuted₁ work₁ v
-      → v < o .relations → frame ≡ frameIn bytes shape v → {refuted₂ : List ℕ} {work₂ : List ℤ} → SignNoted frame shape counts₁ refuted₁ work₁ v refuted₂ work₂
-      → {counts₂ : List ℕ} {work₃ : List ℤ} → RowsNoted frame shape counts₁ work₂ v counts₂ work₃
-      → Turned bytes shape o counts refuted work counts₂ refuted₂ work₃ (v + 1)
-  turned-more {v = v} T l here {refuted₂} {work₂} S {counts₂} {work₃} N = record {
+  pub turned-more : {memory₁ : Memory} {v : ℕ} {frame : List ℕ} → Turned source memory memory₁ v → v < source .outline .relations
+      → frame ≡ frameIn (source .bytes) (source .shape) v → {signs₂ : List ℕ} {work₂ : List ℤ} → SignNoted frame (source .shape) memory₁ v signs₂ work₂
+      → {counts₂ : List ℕ} {work₃ : List ℤ} → RowsNoted frame (source .shape) (memory₁ .counts) work₂ v counts₂ work₃
+      → Turned source memory (memoryFrom counts₂ signs₂ work₃) (v + 1)
+  turned-more {v = v} T l here S N = record {
     first = omega (arith, T .first);
     kept = record {
       size = N .apart .size ∙ S .apart .size ∙ T .kept .size;
+      counts-size = N .size ∙ T .kept .counts-size;
+      signs-size = S .size ∙ T .kept .signs-size;
       table = λ t w n h. let other : t ≡ v → ⊥ = λ e. omega (arith, T .first) in
           N .apart .others t w n other ∙ S .apart .others t w n other ∙ T .kept .table t w n h;
-      counts-size = N .size ∙ T .kept .counts-size;
       count = λ t h. N .others t (λ e. omega (arith, T .first)) ∙ T .kept .count t h;
     };
-    refuted-size = S .size ∙ T .refuted-size;
     known = λ G R.
         let n : v + 1 ≡ suc v = omega arith in
-        rw n (turn-known (G .legal) (R .covers) (R .shaped) G (omega (arith, R .whole, T .kept .size)) (T .kept .counts-size ∙ R .counts-size)
-        (T .refuted-size ∙ R .refuted-size) v (omega (arith, T .first, G .tables)) (omega (arith, G .relations)) here (T .known G R) S N);
+        rw n (turn-known G (R .covers) (R .shaped) v (T .known G R) (omega (arith, R .whole, T .kept .size)) (T .kept .counts-size ∙ R .counts-size)
+        (T .kept .signs-size ∙ R .signs-size) (omega (arith, T .first, G .tables)) (omega (arith, G .relations)) here S N);
   }
 
-  pub turned-all : {counts₁ refuted₁ : List ℕ} {work₁ : List ℤ} {v : ℕ} → Turned bytes shape o counts refuted work counts₁ refuted₁ work₁ v
-      → o .relations ≤ v → Evaluates bytes shape o counts refuted work counts₁ refuted₁ work₁
-  turned-all {counts₁} {refuted₁} {work₁} {v} T h = record {
+  pub turned-all : {memory₁ : Memory} {v : ℕ} → Turned source memory memory₁ v → source .outline .relations ≤ v → Evaluates source memory memory₁
+  turned-all T h = record {
     kept = T .kept;
-    refuted-size = T .refuted-size;
     known = λ G R. let K = T .known G R in record {
       rows-known = λ i l f. K .rows-known i (omega (arith, G .relations)) f;
       signs-known = λ i t l f. K .signs-known i t (omega (arith, G .relations)) f;
@@ -140,14 +134,14 @@ module _ {bytes shape : List ℕ} {o : Outline} {counts refuted : List ℕ} {wor
 
 -- ---- what is wanted
 
-module _ {g : GoalHere} {counts refuted : List ℕ} where
-  pub wanted-sign : g .negative ≡ true → {b : ℕ} → b ≡ getD refuted (g .view) 0 → IsWanted g counts refuted (eqb b 1)
+module _ {g : GoalHere} {counts signs : List ℕ} where
+  pub wanted-sign : g .negative ≡ true → {b : ℕ} → b ≡ getD signs (g .view) 0 → IsWanted g counts signs (eqb b 1)
   wanted-sign n e = record {
     by-rows = λ m. absurd (true≢false (sym n ∙ m));
     by-sign = λ x m q. ap (λ k. eqb k 1) (e ∙ q) ∙ by-test x (λ t. rw t) (λ t. rw t);
   }
 
-  pub wanted-rows : g .negative ≡ false → {b : ℕ} → b ≡ getD counts (g .view) 0 → IsWanted g counts refuted (ltb 0 b)
+  pub wanted-rows : g .negative ≡ false → {b : ℕ} → b ≡ getD counts (g .view) 0 → IsWanted g counts signs (ltb 0 b)
   wanted-rows n {b} e = record {
     by-rows = λ m. positive b ∙ ap isPos e;
     by-sign = λ x m q. absurd (true≢false (sym m ∙ n));
@@ -173,44 +167,41 @@ filled-rows : {ts : List Table} {d : Database} → Each InRange ts d → any has
 filled-rows Each.nil = refl
 filled-rows (Each.cons p ps) = ap₂ _||_ (ap isPos (p .rows)) (filled-rows ps)
 
-module _ {bytes shape : List ℕ} {o : Outline} {g : GoalHere} {counts refuted : List ℕ} {work : List ℤ} where
+module _ {source : Source} {g : GoalHere} {memory : Memory} where
   -- a database with no rows, or one that is not valid, is no case
-  pub case-empty : o .filled ≡ false → IsCase bytes shape o g counts refuted work false counts refuted work
+  pub case-empty : source .outline .filled ≡ false → IsCase source g memory false memory
   case-empty h = record {
-    kept = kept-same (o .tables) counts work;
-    refuted-size = refl;
+    kept = kept-same (source .outline .tables) memory;
     case = λ {F} {d} G R. no-row F (goalOf g) d (filled-rows (R .shaped) ∙ sym (G .filled) ∙ h);
   }
 
-  pub case-invalid : {b : Bool} → IsValid bytes shape o counts work b → b ≡ false → IsCase bytes shape o g counts refuted work false counts refuted work
+  pub case-invalid : {b : Bool} → IsValid source (memory .counts) (memory .work) b → b ≡ false → IsCase source g memory false memory
   case-invalid ok h = record {
-    kept = kept-same (o .tables) counts work;
-    refuted-size = refl;
+    kept = kept-same (source .outline .tables) memory;
     case = λ {F} {d} G R. not-valid F (goalOf g) d (sym (ok .is-valid G (R .shaped) (R .tables)) ∙ h);
   }
 
-  pub case-valid : {b r : Bool} {counts′ refuted′ : List ℕ} {work′ : List ℤ} → o .filled ≡ true → IsValid bytes shape o counts work b → b ≡ true
-      → Evaluates bytes shape o counts refuted work counts′ refuted′ work′ → IsWanted g counts′ refuted′ r
-      → IsCase bytes shape o g counts refuted work r counts′ refuted′ work′
-  case-valid {r = r} {counts′} {refuted′} {work′} f ok h E X = record {
+  pub case-valid : {b r : Bool} {memory′ : Memory} → source .outline .filled ≡ true → IsValid source (memory .counts) (memory .work) b → b ≡ true
+      → Evaluates source memory memory′ → IsWanted g (memory′ .counts) (memory′ .signs) r → IsCase source g memory r memory′
+  case-valid {r = r} {memory′} f ok h E X = record {
     kept = E .kept;
-    refuted-size = E .refuted-size;
     case = λ {F} {d} G R.
         is-wanted F (goalOf g) d (sym (ok .is-valid G (R .shaped) (R .tables)) ∙ h) (filled-rows (R .shaped) ∙ sym (G .filled) ∙ f)
         (wanted-is R (E .known G R));
   }
     where
-      wanted-is : {F : File} {d : Database} → Ready F (goalOf g) d shape counts refuted work
-          → Known F d shape counts′ refuted′ work′ (length (F .tables) + length (F .views)) → r ≡ wanted F d (goalOf g)
+      wanted-is : {F : File} {d : Database} → Ready F (goalOf g) d source memory
+          → Known F d (source .shape) memory′ (length (F .tables) + length (F .views)) → r ≡ wanted F d (goalOf g)
       wanted-is {F} {d} R K =
           let v = g .view in
           let first = R .covers .view .behind in
           let last = R .covers .view .before in
+          let n = getD (memory′ .counts) v 0 in
           let A = negative F d (suc v) v in
           let B = hasRow (rows F d v) in
           by-test (g .negative)
-          (λ e. let flag : Asked shape v = rw e at (R .covers .goal) in
+          (λ e. let flag : Asked (source .shape) v = rw e at (R .covers .goal) in
           X .by-sign A e (K .signs-known v first last flag) ∙ sym (ap (λ b. cond b A B) e))
-          (λ e. let flag : Needed shape v = rw e at (R .covers .goal) in
-          let size : getD counts′ v 0 ≡ length (rows F d v) = sym (rows-length work′ v (columnsOf (schemas F) v) (getD counts′ v 0)) ∙ ap length (K .rows-known v last flag) in
+          (λ e. let flag : Needed (source .shape) v = rw e at (R .covers .goal) in
+          let size : n ≡ length (rows F d v) = sym (rows-length (memory′ .work) v (columnsOf (schemas F) v) n) ∙ ap length (K .rows-known v last flag) in
           X .by-rows e ∙ ap isPos size ∙ sym (ap (λ b. cond b A B) e))

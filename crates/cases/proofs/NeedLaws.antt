@@ -24,8 +24,7 @@ use Rattle.language.specs.Legal.{Legal}
 use Rattle.language.specs.Written.{viewBytes}
 use Rattle.language.proofs.LegalAccepted.{legal-wellFormed}
 use Rattle.catalog.specs.Frames.{frameIn, namesIn}
-use Rattle.catalog.specs.FileIn.{FileIn}
-use Rattle.catalog.specs.declared.outline.Outline.{Outline}
+use Rattle.catalog.specs.FileIn.{Source, withFlags, FileIn}
 use Rattle.catalog.specs.declared.plan.Goal.{Goal as GoalHere}
 use Rattle.catalog.proofs.FileLaws.{file-kept}
 use Rattle.catalog.proofs.ViewParts.{view-parts}
@@ -77,9 +76,9 @@ pub record From (F : File) (v : ℕ) (shape : List ℕ) : Type 0 where
   pub signs : (u : ℕ) (q : View) → v ≤ u → query (length (F .tables)) F u ≡ some q → Asked shape u → Asks shape q
 
 -- the flags at first, and as they are
-pub record Reached (bytes : List ℕ) (o : Outline) (v : ℕ) (shape₀ shape : List ℕ) : Type 0 where
-  pub more : More shape₀ shape
-  pub from : {F : File} {ends : List ℤ} → FileIn F bytes shape₀ ends o → From F v shape
+pub record Reached (source : Source) (v : ℕ) (shape : List ℕ) : Type 0 where
+  pub more : More (source .shape) shape
+  pub from : {F : File} {ends : List ℤ} → FileIn F source ends → From F v shape
 
 asks-more : {shape shape′ : List ℕ} → More shape shape′ → (q : View) → Asks shape q → Asks shape′ q
 asks-more n (View.basic fs w es) h = more-all n h
@@ -99,11 +98,11 @@ some-one e = cc
 earlier-of : (F : File) → Legal F → Stacked (length (F .tables)) F
 earlier-of F l = stacked F (rules F (legal-wellFormed F l) .earlier-views)
 
-pub reached-none : {bytes : List ℕ} (o : Outline) (shape : List ℕ) → Reached bytes o (o .relations) shape shape
-reached-none o shape = record {
-  more = more-same shape;
+pub reached-none : (source : Source) → Reached source (source .outline .relations) (source .shape)
+reached-none source = record {
+  more = more-same (source .shape);
   from = λ {F} G.
-      let past : (u : ℕ) (q : View) → o .relations ≤ u → query (length (F .tables)) F u ≡ some q → ⊥ =
+      let past : (u : ℕ) (q : View) → source .outline .relations ≤ u → query (length (F .tables)) F u ≡ some q → ⊥ =
       λ u q h e. let x = query-split (length (F .tables)) F u q e in omega (arith, x .2, h, G .relations) in
       record { rows = λ u q h e f. absurd (past u q h e); signs = λ u q h e f. absurd (past u q h e) };
 }
@@ -112,11 +111,11 @@ reached-none o shape = record {
 behind : {v u m n : ℕ} {is : List ℕ} → All (λ i. i < v) is → v ≤ u → m < 8 → n < 8 → All (λ j. 8 * u + m ≡ 8 * j + n → ⊥) is
 behind h k a b = all-map (λ j l e. omega arith) h
 
-module _ {bytes : List ℕ} {o : Outline} {v : ℕ} {shape₀ shape shape₁ shape₂ frame : List ℕ} (h : o .tables < v) (l : v ≤ o .relations)
-    (r : Reached bytes o v shape₀ shape) (place : frame ≡ frameIn bytes shape (v - 1))
+module _ {source : Source} {v : ℕ} {shape shape₁ shape₂ frame : List ℕ} (r : Reached source v shape) (h : source .outline .tables < v)
+    (l : v ≤ source .outline .relations) (place : frame ≡ frameIn (source .bytes) shape (v - 1))
     (x : NeedsRows frame shape (v - 1) shape₁) (y : NeedsSigns frame shape₁ (v - 1) shape₂) where
-  module _ {F : File} {ends : List ℤ} (G₀ : FileIn F bytes shape₀ ends o) where
-    G : FileIn F bytes shape ends o
+  module _ {F : File} {ends : List ℤ} (G₀ : FileIn F source ends) where
+    G : FileIn F (withFlags source shape) ends
     G = file-kept G₀ (r .more .first)
 
     few : v - 1 < 16
@@ -163,30 +162,30 @@ module _ {bytes : List ℕ} {o : Outline} {v : ℕ} {shape₀ shape shape₁ sha
         let here : query T F (v - 1) ≡ some q₀ = by-lt (v - 1) T (λ t k. absurd (omega (arith, h, G₀ .tables))) (λ t k. rw t is) in
         turn-of q₀ here
 
-  pub reached-next : Reached bytes o (v - 1) shape₀ shape₂
+  pub reached-next : Reached source (v - 1) shape₂
   reached-next = record {
     more = more-more (r .more) (more-more (x .more) (y .more));
     from = λ G₀. turn G₀;
   }
 
 -- the goal's own flag first
-pub needs-all : {bytes : List ℕ} {o : Outline} {g : GoalHere} {v : ℕ} {shape₀ shape₁ shape : List ℕ} → shape₁ ≡ set shape₀ (8 * g .view + flagOf (g .negative)) 1
-    → v ≤ o .tables → Reached bytes o v shape₁ shape → NeedsOf bytes shape₀ o g shape
-needs-all {bytes} {o} {g} {v} {shape₀} {shape₁} {shape} e h r = record {
+pub needs-all : {source : Source} {g : GoalHere} {v : ℕ} {shape₁ shape : List ℕ} → shape₁ ≡ set (source .shape) (8 * g .view + flagOf (g .negative)) 1
+    → v ≤ source .outline .tables → Reached (withFlags source shape₁) v shape → NeedsOf source g shape
+needs-all {source} {g} {v} {shape₁} {shape} e h r = record {
   first = more-more goal (r .more) .first;
   covers = λ {F} G W.
       let f = r .from (file-kept G (goal .first)) in
       let few : g .view < 16 = omega (arith, W .before, G .legal .relationCount) in
       record {
         view = W;
-        goal = r .more .kept (flagOf (g .negative)) (g .view) (flag-set (flagOf (g .negative)) (flag-low (g .negative)) (flag-high (g .negative)) shape₀ (g .view) e (G .sized) few);
+        goal = r .more .kept (flagOf (g .negative)) (g .view) (flag-set (flagOf (g .negative)) (flag-low (g .negative)) (flag-high (g .negative)) (source .shape) (g .view) e (G .sized) few);
         rows = λ u q d k. f .rows u q (below G u q d) d k;
         signs = λ u q d k. f .signs u q (below G u q d) d k;
       };
 }
   where
-    goal : More shape₀ shape₁
-    goal = more-set (flagOf (g .negative)) (flag-low (g .negative)) (flag-high (g .negative)) shape₀ (g .view) e
+    goal : More (source .shape) shape₁
+    goal = more-set (flagOf (g .negative)) (flag-low (g .negative)) (flag-high (g .negative)) (source .shape) (g .view) e
 
-    below : {F : File} {ends : List ℤ} → FileIn F bytes shape₀ ends o → (u : ℕ) (q : View) → query (length (F .tables)) F u ≡ some q → v ≤ u
+    below : {F : File} {ends : List ℤ} → FileIn F source ends → (u : ℕ) (q : View) → query (length (F .tables)) F u ≡ some q → v ≤ u
     below {F} G u q d = let x = query-split (length (F .tables)) F u q d in omega (arith, x .0, h, G .tables)

@@ -14,27 +14,26 @@ use Rattle.meaning.specs.Algebra.{query}
 use Rattle.meaning.specs.Bounds.{names}
 use Rattle.meaning.proofs.Relations.{query-split}
 use Rattle.language.specs.Legal.{Legal, tableAt}
-use Rattle.catalog.specs.FileIn.{FileIn, TablesCounted}
-use Rattle.catalog.specs.declared.outline.Outline.{Outline}
+use Rattle.catalog.specs.FileIn.{Source, FileIn, TablesCounted}
 use Rattle.catalog.proofs.FileLaws.{rows-are}
 use Rattle.cases.specs.TablesIn.{TablesIn}
 use Rattle.cases.specs.Needs.{Flag, flagOf, Needed, Asked, Asks, AllSet, GoalIn, Covers}
-use Rattle.cases.specs.Judgement.{TablesKept}
+use Rattle.cases.specs.Judgement.{Memory, TablesKept}
 use Rattle.cases.proofs.SignLaws.{names-before}
 use Rattle.cases.proofs.FileLaws.{view-legal, before-length}
 
 -- ---- numbers of rows
 
-pub counts-are : {F : File} {bytes shape : List ℕ} {ends : List ℤ} {o : Outline} {counts counts′ : List ℕ} → FileIn F bytes shape ends o
-    → TablesCounted shape (o .tables) counts counts′ → length counts ≡ 16 → (t : ℕ) → t < length (F .tables) → getD counts′ t 0 ≡ tableAt (F .tables) t .rows
+pub counts-are : {F : File} {source : Source} {ends : List ℤ} {counts counts′ : List ℕ} → FileIn F source ends
+    → TablesCounted (source .shape) (source .outline .tables) counts counts′ → length counts ≡ 16 → (t : ℕ) → t < length (F .tables) → getD counts′ t 0 ≡ tableAt (F .tables) t .rows
 counts-are {F} G c s t h = c .counted t (omega (arith, G .tables)) (omega (arith, G .legal .relationCount)) ∙ rows-are G t h
 
 -- the tables stay where they stand
-pub tables-kept : {F : File} {d : Database} {tables : ℕ} {counts counts′ : List ℕ} {work work′ : List ℤ} → tables ≡ length (F .tables)
-    → TablesKept tables counts work counts′ work′ → TablesIn F d counts work → TablesIn F d counts′ work′
-tables-kept {F} {tables = tables} {counts} {counts′} {work} {work′} n k T = record {
+pub tables-kept : {F : File} {d : Database} {tables : ℕ} {memory memory′ : Memory} → tables ≡ length (F .tables) → TablesKept tables memory memory′
+    → TablesIn F d (memory .counts) (memory .work) → TablesIn F d (memory′ .counts) (memory′ .work)
+tables-kept {F} {tables = tables} {memory} n k T = record {
   table = λ t h. let l : t < tables = omega arith in
-      rw (k .count t l) (k .table t (length (tableAt (F .tables) t .columns)) (getD counts t 0) l ∙ T .table t h);
+      rw (k .count t l) (k .table t (length (tableAt (F .tables) t .columns)) (getD (memory .counts) t 0) l ∙ T .table t h);
 }
 
 -- ---- every relation

@@ -30,14 +30,13 @@ use Rattle.language.specs.Legal.{Legal}
 use Rattle.language.specs.Written.{viewBytes}
 use Rattle.catalog.specs.Arrays.{widthAt}
 use Rattle.catalog.specs.Frames.{frameIn}
-use Rattle.catalog.specs.FileIn.{FileIn}
-use Rattle.catalog.specs.declared.outline.Outline.{Outline}
+use Rattle.catalog.specs.FileIn.{Source, FileIn}
 use Rattle.catalog.proofs.FileLaws.{width-is}
 use Rattle.store.specs.Layout.{area}
 use Rattle.store.specs.Rows.{rowsIn}
 use Rattle.cases.specs.Needs.{Needed, Asked, Asks, Covers}
 use Rattle.cases.specs.Relations.{columnsOf, OperandsIn, SignsIn}
-use Rattle.cases.specs.Judgement.{SignNoted, RowsNoted, Known}
+use Rattle.cases.specs.Judgement.{Memory, memoryFrom, SignNoted, RowsNoted, Known}
 use Rattle.cases.proofs.SignLaws.{names-before, operands-kept}
 use Rattle.cases.proofs.FileLaws.{relation-small, view-legal, before-length, before-schema, own-schema}
 
@@ -48,7 +47,13 @@ view-there F v h l =
     let (q, e) = getElem-some (F .views) (v - n) (omega arith) in
     (q, rw (le-ltb v n h) e)
 
-module _ {F : File} {g : Goal} {d : Database} {shape : List ℕ} (L : Legal F) (C : Covers F g shape) (shaped : Shaped F d) where
+module _ {F : File} {g : Goal} {d : Database} {source : Source} {ends : List ℤ} (G : FileIn F source ends) (C : Covers F g (source .shape)) (shaped : Shaped F d) where
+  abbrev L : Legal F
+  L = G .legal
+
+  abbrev shape : List ℕ
+  shape = source .shape
+
   abbrev n : ℕ
   n = length (F .tables)
 
@@ -69,9 +74,9 @@ module _ {F : File} {g : Goal} {d : Database} {shape : List ℕ} (L : Legal F) (
   in-d v {q} e = subst (λ k. query k F v ≡ some q) (sym (each-length shaped)) e
 
   -- the relations that a view names, where their rows are needed
-  operands-in : {counts refuted : List ℕ} {work : List ℤ} (v : ℕ) (q : View) (e : query n F v ≡ some q) → v < n + length (F .views) → area ≤ length work
-      → Known F d shape counts refuted work v → All (Needed shape) (names q) → OperandsIn n (take v (schemas F)) (M v) counts work v q
-  operands-in {counts} {refuted} {work} v q e l whole K flags =
+  operands-in : (v : ℕ) (q : View) (e : query n F v ≡ some q) → v < n + length (F .views) → {memory : Memory} → Known F d shape memory v
+      → area ≤ length (memory .work) → All (Needed shape) (names q) → OperandsIn n (take v (schemas F)) (M v) (memory .counts) (memory .work) v q
+  operands-in v q e l K whole flags =
       let legal = view-legal L v q e in
       let place = before-length L v q e in
       let below-v : All (λ i. i < v) (names q) = all-map (λ i h. omega arith) (names-before q legal) in
@@ -88,11 +93,11 @@ module _ {F : File} {g : Goal} {d : Database} {shape : List ℕ} (L : Legal F) (
       }
 
   -- what tells whether a view is negative, where it is asked
-  signs-in : {counts refuted : List ℕ} {work : List ℤ} (v : ℕ) (q : View) (e : query n F v ≡ some q) → v < n + length (F .views) → area ≤ length work
-      → Known F d shape counts refuted work v → Asks shape q → SignsIn n (take v (schemas F)) (M v) neg counts refuted work v q
-  signs-in v (View.basic fs w es) e l whole K flags = operands-in v (View.basic fs w es) e l whole K flags
-  signs-in v (View.grouped fs w gs h es) e l whole K flags = operands-in v (View.grouped fs w gs h es) e l whole K flags
-  signs-in v (View.set op i j) e l whole K (fi, fj) =
+  signs-in : (v : ℕ) (q : View) (e : query n F v ≡ some q) → v < n + length (F .views) → {memory : Memory} → Known F d shape memory v
+      → area ≤ length (memory .work) → Asks shape q → SignsIn n (take v (schemas F)) (M v) neg (memory .counts) (memory .signs) (memory .work) v q
+  signs-in v (View.basic fs w es) e l K whole flags = operands-in v (View.basic fs w es) e l K whole flags
+  signs-in v (View.grouped fs w gs h es) e l K whole flags = operands-in v (View.grouped fs w gs h es) e l K whole flags
+  signs-in v (View.set op i j) e l K whole (fi, fj) =
       let legal = view-legal L v (View.set op i j) e .fields in
       let place = before-length L v (View.set op i j) e in (
         record { told = K .signs-known i (legal .left .behind) (omega (arith, legal .left .before)) fi },
@@ -101,43 +106,42 @@ module _ {F : File} {g : Goal} {d : Database} {shape : List ℕ} (L : Legal F) (
 
   -- ---- one turn
 
-  module _ {bytes : List ℕ} {ends : List ℤ} {o : Outline} (G : FileIn F bytes shape ends o) {counts refuted : List ℕ} {work : List ℤ}
-      (whole : area ≤ length work) (counts-size : length counts ≡ 16) (refuted-size : length refuted ≡ 16) (v : ℕ) (first : n ≤ v)
-      (last : v < n + length (F .views)) {frame : List ℕ} (here : frame ≡ frameIn bytes shape v) (K : Known F d shape counts refuted work v)
-      {counts′ refuted′ : List ℕ} {work₁ work₂ : List ℤ} (S : SignNoted frame shape counts refuted work v refuted′ work₁)
-      (R : RowsNoted frame shape counts work₁ v counts′ work₂) where
+  module _ (v : ℕ) {memory : Memory} (K : Known F d shape memory v) (whole : area ≤ length (memory .work)) (counts-size : length (memory .counts) ≡ 16)
+      (signs-size : length (memory .signs) ≡ 16) (first : n ≤ v) (last : v < n + length (F .views)) {frame : List ℕ} (here : frame ≡ frameIn (source .bytes) shape v)
+      {signs′ counts′ : List ℕ} {work₁ work₂ : List ℤ} (S : SignNoted frame shape memory v signs′ work₁)
+      (R : RowsNoted frame shape (memory .counts) work₁ v counts′ work₂) where
     small : v < 16
     small = omega (arith, L .relationCount)
 
     own-frame : (q : View) → query n F v ≡ some q → frame ≡ viewBytes q
     own-frame q e = here ∙ G .views v q e
 
-    own-sign : Asked shape v → getD refuted′ v 0 ≡ cond (neg v) 1 0
+    own-sign : Asked shape v → getD signs′ v 0 ≡ cond (neg v) 1 0
     own-sign f =
         let (q, e) = view-there F v first last in
         let (r, T, noted) = S .noted f (omega (arith, small)) in
-        let s = signs-in v q e last whole K (C .signs v q e f) in
+        let s = signs-in v q e last K whole (C .signs v q e f) in
         noted ∙ ap (λ b. cond b 1 0) (T .refutes q (own-frame q e) n (take v (schemas F)) (M v) neg s ∙ sym (negative-view F d in-order v q (in-d v e)))
 
     own-rows : Needed shape v → rowsIn work₂ v (columnsOf (schemas F) v) (getD counts′ v 0) ≡ rows F d v
     own-rows f =
         let (q, e) = view-there F v first last in
-        let s = operands-kept q (S .apart) (operands-in v q e last whole K (C .rows v q e f)) in
+        let s = operands-kept q (S .apart) (operands-in v q e last K whole (C .rows v q e f)) in
         let widths : (i : ℕ) → i < v → widthAt shape i ≡ columnsOf (take v (schemas F)) i =
         λ i h. width-is G i ∙ sym (ap (λ t. length (t .ranges)) (before-schema L v q e i h)) in
         ap (λ t. rowsIn work₂ v (length (t .ranges)) (getD counts′ v 0)) (sym (own-schema L v q e))
         ∙ R .noted f (omega (arith, small)) .rows q (own-frame q e) s widths ∙ sym (rows-view F d v q (in-d v e))
 
-    rows-kept : (i w k : ℕ) → (i ≡ v → ⊥) → rowsIn work₂ i w k ≡ rowsIn work i w k
+    rows-kept : (i w k : ℕ) → (i ≡ v → ⊥) → rowsIn work₂ i w k ≡ rowsIn (memory .work) i w k
     rows-kept i w k h = R .apart .others i w k h ∙ S .apart .others i w k h
 
-    pub turn-known : Known F d shape counts′ refuted′ work₂ (suc v)
+    pub turn-known : Known F d shape (memoryFrom counts′ signs′ work₂) (suc v)
     turn-known = record {
       rows-known = λ i h f. ⊎-elim (λ (e : i ≡ v). subst (λ j. rowsIn work₂ j (columnsOf (schemas F) j) (getD counts′ j 0) ≡ rows F d j) (sym e) (own-rows (subst (Needed shape) e f)))
           (λ (l : i < v). let other : i ≡ v → ⊥ = λ e. omega arith in
-          rw (R .others i other) (rows-kept i (columnsOf (schemas F) i) (getD counts i 0) other ∙ K .rows-known i l f))
+          rw (R .others i other) (rows-kept i (columnsOf (schemas F) i) (getD (memory .counts) i 0) other ∙ K .rows-known i l f))
           (eq-or-lt-of-le (le-of-suc-le-suc h));
-      signs-known = λ i t h f. ⊎-elim (λ (e : i ≡ v). subst (λ j. getD refuted′ j 0 ≡ cond (neg j) 1 0) (sym e) (own-sign (subst (Asked shape) e f)))
+      signs-known = λ i t h f. ⊎-elim (λ (e : i ≡ v). subst (λ j. getD signs′ j 0 ≡ cond (neg j) 1 0) (sym e) (own-sign (subst (Asked shape) e f)))
           (λ (l : i < v). S .others i (λ e. omega arith) ∙ K .signs-known i t l f)
           (eq-or-lt-of-le (le-of-suc-le-suc h));
     }

@@ -15,8 +15,7 @@ use Rattle.meaning.proofs.Elements.{all-at}
 use Rattle.meaning.proofs.DecidedLists.{each-length}
 use Rattle.meaning.proofs.DecidedValidity.{shaped-dec}
 use Rattle.language.specs.Frames.{noTable}
-use Rattle.catalog.specs.FileIn.{FileIn}
-use Rattle.catalog.specs.declared.outline.Outline.{Outline}
+use Rattle.catalog.specs.FileIn.{Source, FileIn}
 use Rattle.catalog.proofs.FileLaws.{columns-are}
 use Rattle.cases.specs.TablesIn.{TablesIn}
 use Rattle.cases.specs.Validity.{ForeignsHeld, KeysHeld, IsValid}
@@ -25,26 +24,26 @@ valid-is : (F : File) (d : Database) → Shaped F d → valid F d ≡ (each keyH
 unfolding valid
 valid-is F d sh = rw (true-dec (shaped-dec F d) sh)
 
-module _ {bytes shape : List ℕ} {o : Outline} {counts : List ℕ} {work : List ℤ} where
-  keys-told : {r : Bool} → KeysHeld shape counts work (o .tables) r
-      → {F : File} {d : Database} {ends : List ℤ} → FileIn F bytes shape ends o → Shaped F d → TablesIn F d counts work
+module _ {source : Source} {counts : List ℕ} {work : List ℤ} where
+  keys-told : {r : Bool} → KeysHeld (source .shape) counts work (source .outline .tables) r
+      → {F : File} {d : Database} {ends : List ℤ} → FileIn F source ends → Shaped F d → TablesIn F d counts work
       → r ≡ each keyHolds (F .tables) d
   keys-told k {F} {d} G sh s =
-      let n : length (F .tables) ≡ o .tables = sym (G .tables) in
+      let n : length (F .tables) ≡ source .outline .tables = sym (G .tables) in
       k .hold F d n (each-length sh ∙ n)
       (λ t h. all-at (G .legal .tables) noTable t (omega arith) .key)
       (λ t h. columns-are G t (omega arith))
       (λ t h. G .masks t (omega arith))
       s
 
-  pub invalid-keys : {r : Bool} → KeysHeld shape counts work (o .tables) r → r ≡ false → IsValid bytes shape o counts work false
+  pub invalid-keys : {r : Bool} → KeysHeld (source .shape) counts work (source .outline .tables) r → r ≡ false → IsValid source counts work false
   invalid-keys k z = record {
     is-valid = λ {F} {d} G sh s.
         sym (valid-is F d sh ∙ ap (λ b. b && all (foreignKeyHolds d) (F .keys)) (sym (keys-told k G sh s) ∙ z));
   }
 
-  pub valid-both : {q r : Bool} → KeysHeld shape counts work (o .tables) q → q ≡ true → ForeignsHeld bytes (o .foreign) (o .keys) counts work r
-      → IsValid bytes shape o counts work r
+  pub valid-both : {q r : Bool} → KeysHeld (source .shape) counts work (source .outline .tables) q → q ≡ true → ForeignsHeld (source .bytes) (source .outline .foreign) (source .outline .keys) counts work r
+      → IsValid source counts work r
   valid-both k z f = record {
     is-valid = λ {F} {d} G sh s.
         let (rest, e) = G .foreign in

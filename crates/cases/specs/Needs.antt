@@ -13,8 +13,7 @@ use Rattle.meaning.specs.Bounds.{names}
 use Rattle.language.specs.Legal.{NamesView}
 use Rattle.language.specs.Written.{viewBytes}
 use Rattle.catalog.specs.Arrays.{entry, FirstKept}
-use Rattle.catalog.specs.FileIn.{FileIn, goalOf}
-use Rattle.catalog.specs.declared.outline.Outline.{Outline}
+use Rattle.catalog.specs.FileIn.{Source, FileIn, goalOf}
 use Rattle.catalog.specs.declared.plan.Goal.{Goal as GoalHere}
 
 -- byte m of relation i is set
@@ -90,6 +89,6 @@ pub record NeedsSigns (frame shape : List ℕ) (v : ℕ) (shape′ : List ℕ) :
   pub others : (q : View) → frame ≡ viewBytes q → (k : ℕ) → All (λ j. k ≡ entry j + 7 → ⊥) (names q) → getD shape′ k 0 ≡ getD shape k 0
 
 -- every byte that is no flag stays, so that the file stays in memory
-pub record NeedsOf (bytes shape : List ℕ) (o : Outline) (g : GoalHere) (shape′ : List ℕ) : Type 0 where
-  pub first : FirstKept 6 shape shape′
-  pub covers : {F : File} {ends : List ℤ} → FileIn F bytes shape ends o → GoalIn F (goalOf g) → Covers F (goalOf g) shape′
+pub record NeedsOf (source : Source) (g : GoalHere) (shape′ : List ℕ) : Type 0 where
+  pub first : FirstKept 6 (source .shape) shape′
+  pub covers : {F : File} {ends : List ℤ} → FileIn F source ends → GoalIn F (goalOf g) → Covers F (goalOf g) shape′

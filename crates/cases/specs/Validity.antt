@@ -14,8 +14,7 @@ use Rattle.meaning.specs.Decided.{differ, keyHolds, agrees, foreignKeyHolds, va
 use Rattle.language.specs.Legal.{LegalKey, LegalPair, tableAt}
 use Rattle.language.specs.Written.{maskOf, pairsBytes, keyBytes}
 use Rattle.catalog.specs.Arrays.{widthAt, maskAt}
-use Rattle.catalog.specs.FileIn.{FileIn}
-use Rattle.catalog.specs.declared.outline.Outline.{Outline}
+use Rattle.catalog.specs.FileIn.{Source, FileIn}
 use Rattle.store.specs.Rows.{rowIn, rowsIn}
 use Rattle.cases.specs.TablesIn.{TablesIn}
 
@@ -59,6 +58,6 @@ pub record ForeignsHeld (bytes : List ℕ) (at keys : ℕ) (counts : List ℕ) (
 
 -- ---- the whole
 
-pub record IsValid (bytes shape : List ℕ) (o : Outline) (counts : List ℕ) (work : List ℤ) (r : Bool) : Type 0 where
-  pub is-valid : {F : File} {d : Database} {ends : List ℤ} → FileIn F bytes shape ends o → Shaped F d → TablesIn F d counts work
+pub record IsValid (source : Source) (counts : List ℕ) (work : List ℤ) (r : Bool) : Type 0 where
+  pub is-valid : {F : File} {d : Database} {ends : List ℤ} → FileIn F source ends → Shaped F d → TablesIn F d counts work
       → r ≡ valid F d

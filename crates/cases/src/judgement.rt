@@ -6,17 +6,19 @@ use catalog::frames;
 use catalog::outline::Outline;
 use catalog::plan::Goal;
 use value::boolean;
-ghost use Rattle.cases.specs.Judgement.{SignNoted, RowsNoted, Evaluates, IsWanted, IsCase};
+ghost use Rattle.catalog.specs.FileIn.{sourceFrom};
+ghost use Rattle.cases.specs.Judgement.{memoryFrom, SignNoted, RowsNoted, Evaluates, IsWanted, IsCase};
 
 // Whether view v is negative, if it is asked.
-fn note_sign(frame: &[u8], shape: &[u8], counts: &[u8], refuted: &mut [u8], work: &mut [i32], v: u8)
-    ensures { λ _. ⌜ SignNoted (now (frame .entry)) (now (shape .entry)) (now (counts .entry)) (now (refuted .entry)) (now (work .entry)) v (now (refuted .exit)) (now (work .exit)) ⌝ }
+fn note_sign(frame: &[u8], shape: &[u8], counts: &[u8], signs: &mut [u8], work: &mut [i32], v: u8)
+    ensures { λ _. ⌜ SignNoted (now (frame .entry)) (now (shape .entry))
+        (memoryFrom (now (counts .entry)) (now (signs .entry)) (now (work .entry))) v (now (signs .exit)) (now (work .exit)) ⌝ }
 {
     if !arrays::is_asked(shape, v) {
         return;
     }
-    let sign = relation::is_refuted(frame, counts, refuted, work, v);
-    slice::put_byte(refuted, v as usize, boolean::one_if(sign));
+    let sign = relation::is_refuted(frame, counts, signs, work, v);
+    slice::put_byte(signs, v as usize, boolean::one_if(sign));
 }
 
 // The rows of view v, if they are needed, and their number.
@@ -31,22 +33,24 @@ fn note_rows(frame: &[u8], shape: &[u8], counts: &mut [u8], work: &mut [i32], v:
 }
 
 // The views whose rows are needed or whose sign is asked, from the first to the last. `counts` has the number of rows of each relation,
-// at first of the tables; `refuted` has 1 for a negative view, else 0.
+// at first of the tables; `signs` has 1 for a negative view, else 0.
 // Refused: the first frame for each; no view.
 pub fn evaluate(
     bytes: &[u8],
     shape: &[u8],
     o: Outline,
     counts: &mut [u8],
-    refuted: &mut [u8],
+    signs: &mut [u8],
     work: &mut [i32],
 )
-    ensures { λ _. ⌜ Evaluates (now (bytes .entry)) (now (shape .entry)) o (now (counts .entry)) (now (refuted .entry)) (now (work .entry)) (now (counts .exit)) (now (refuted .exit)) (now (work .exit)) ⌝ }
+    ensures { λ _. ⌜ Evaluates (sourceFrom (now (bytes .entry)) (now (shape .entry)) o)
+        (memoryFrom (now (counts .entry)) (now (signs .entry)) (now (work .entry)))
+        (memoryFrom (now (counts .exit)) (now (signs .exit)) (now (work .exit))) ⌝ }
 {
     let mut v = o.tables;
     while v < o.relations {
         let frame = frames::frame_of(bytes, shape, v);
-        note_sign(frame, shape, counts, refuted, work, v);
+        note_sign(frame, shape, counts, signs, work, v);
         note_rows(frame, shape, counts, work, v);
         v += 1;
     }
@@ -54,11 +58,11 @@ pub fn evaluate(
 
 // What is wanted of the goal: that it is negative, or that it has a row.
 // Refused: its number of rows for its sign; a goal without rows.
-pub fn wanted(goal: Goal, counts: &[u8], refuted: &[u8]) -> bool
-    ensures { λ r. ⌜ IsWanted goal (now (counts .entry)) (now (refuted .entry)) r ⌝ }
+pub fn wanted(goal: Goal, counts: &[u8], signs: &[u8]) -> bool
+    ensures { λ r. ⌜ IsWanted goal (now (counts .entry)) (now (signs .entry)) r ⌝ }
 {
     if goal.negative {
-        return slice::byte_at(refuted, goal.view as usize) == 1;
+        return slice::byte_at(signs, goal.view as usize) == 1;
     }
     0 < slice::byte_at(counts, goal.view as usize)
 }
@@ -71,10 +75,12 @@ pub fn is_case(
     o: Outline,
     goal: Goal,
     counts: &mut [u8],
-    refuted: &mut [u8],
+    signs: &mut [u8],
     work: &mut [i32],
 ) -> bool
-    ensures { λ r. ⌜ IsCase (now (bytes .entry)) (now (shape .entry)) o goal (now (counts .entry)) (now (refuted .entry)) (now (work .entry)) r (now (counts .exit)) (now (refuted .exit)) (now (work .exit)) ⌝ }
+    ensures { λ r. ⌜ IsCase (sourceFrom (now (bytes .entry)) (now (shape .entry)) o) goal
+        (memoryFrom (now (counts .entry)) (now (signs .entry)) (now (work .entry))) r
+        (memoryFrom (now (counts .exit)) (now (signs .exit)) (now (work .exit))) ⌝ }
 {
     if !o.filled {
         return false;
@@ -82,6 +88,6 @@ pub fn is_case(
     if !validity::is_valid(bytes, shape, o, counts, work) {
         return false;
     }
-    evaluate(bytes, shape, o, counts, refuted, work);
-    wanted(goal, counts, refuted)
+    evaluate(bytes, shape, o, counts, signs, work);
+    wanted(goal, counts, signs)
 }

@@ -7,6 +7,7 @@ ghost use mathlib.Core.Path.{_≡_};
 ghost use Prim.Native.Nat.{_+_};
 ghost use lib.ListN.{set};
 ghost use Rattle.catalog.specs.Arrays.{entry};
+ghost use Rattle.catalog.specs.FileIn.{sourceFrom};
 ghost use Rattle.cases.specs.Needs.{flagOf, NamesSet, AllSet, NeedsRows, NeedsSigns, NeedsOf};
 
 // A flag of a relation: that its sign is asked, or that its rows are needed.
@@ -81,7 +82,7 @@ fn need_signs(frame: &[u8], shape: &mut [u8], v: u8)
 // The flags of all relations that the goal depends on are set, from the last relation down.
 // Refused: the goal alone; what the first relation names for each.
 pub fn needs_of(bytes: &[u8], shape: &mut [u8], o: Outline, goal: Goal)
-    ensures { λ _. ⌜ NeedsOf (now (bytes .entry)) (now (shape .entry)) o goal (now (shape .exit)) ⌝ }
+    ensures { λ _. ⌜ NeedsOf (sourceFrom (now (bytes .entry)) (now (shape .entry)) o) goal (now (shape .exit)) ⌝ }
 {
     set_flag(shape, goal.view, goal.negative);
     let mut v = o.relations;

@@ -2,6 +2,7 @@
 use catalog::arrays;
 use catalog::frames;
 use catalog::outline::Outline;
+ghost use Rattle.catalog.specs.FileIn.{sourceFrom};
 ghost use Rattle.cases.specs.Validity.{Differs, DiffersFromEarlier, KeyHeld, KeysHeld, Agreed, HasParent, ForeignHeld, ForeignsHeld, IsValid};
 
 // Whether two rows of a table differ in some column of the key.
@@ -169,7 +170,7 @@ pub fn foreign_keys_hold(bytes: &[u8], at: usize, keys: u8, counts: &[u8], work:
 // Whether each key and each foreign key holds.
 // Refused: primary keys alone; foreign keys alone.
 pub fn is_valid(bytes: &[u8], shape: &[u8], o: Outline, counts: &[u8], work: &[i32]) -> bool
-    ensures { λ r. ⌜ IsValid (now (bytes .entry)) (now (shape .entry)) o (now (counts .entry)) (now (work .entry)) r ⌝ }
+    ensures { λ r. ⌜ IsValid (sourceFrom (now (bytes .entry)) (now (shape .entry)) o) (now (counts .entry)) (now (work .entry)) r ⌝ }
 {
     if !keys_hold(shape, counts, work, o.tables) {
         return false;

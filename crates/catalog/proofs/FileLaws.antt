@@ -20,8 +20,7 @@ use Rattle.meaning.proofs.Stacks.{stack-keeps}
 use Rattle.language.specs.Legal.{LegalColumn, LegalTable, tableAt}
 pub use Rattle.catalog.specs.Arrays.{noColumn}
 use Rattle.catalog.specs.Arrays.{widthAt, boundAt, startAt, rangesFrom, schemaIn, rangeAt, columnAt, FirstKept}
-use Rattle.catalog.specs.FileIn.{TablesKnown, FileIn}
-use Rattle.catalog.specs.declared.outline.Outline.{Outline}
+use Rattle.catalog.specs.FileIn.{TablesKnown, Source, withFlags, FileIn}
 use Rattle.catalog.proofs.ArrayLaws.{none, length-ranges}
 
 -- a table's schema is what it declares
@@ -60,29 +59,29 @@ pub column-kept : {n : ℕ} {shape shape′ : List ℕ} (ends : List ℤ) → Fi
 unfolding columnAt
 column-kept ends k h i c = rw (k .byte i 1 (omega arith))
 
-module _ {F : File} {bytes shape : List ℕ} {ends : List ℤ} {o : Outline} (M : FileIn F bytes shape ends o) where
-  pub width-is : (i : ℕ) → widthAt shape i ≡ length (schema (schemas F) i .ranges)
-  width-is i = sym (length-ranges ends (16 * i) (widthAt shape i)) ∙ ap (λ (s : Schema). length (s .ranges)) (M .known i)
+module _ {F : File} {source : Source} {ends : List ℤ} (M : FileIn F source ends) where
+  pub width-is : (i : ℕ) → widthAt (source .shape) i ≡ length (schema (schemas F) i .ranges)
+  width-is i = sym (length-ranges ends (16 * i) (widthAt (source .shape) i)) ∙ ap (λ (s : Schema). length (s .ranges)) (M .known i)
 
-  pub bound-is : (i : ℕ) → boundAt shape i ≡ schema (schemas F) i .bound
+  pub bound-is : (i : ℕ) → boundAt (source .shape) i ≡ schema (schemas F) i .bound
   bound-is i = ap (λ (s : Schema). s .bound) (M .known i)
 
-  pub tables-are : TablesKnown (F .tables) shape ends
+  pub tables-are : TablesKnown (F .tables) (source .shape) ends
   tables-are = tables-in (M .legal .tables) (λ t h. M .known t ∙ table-schema F t h)
 
   -- of a table
-  pub rows-are : (t : ℕ) → t < length (F .tables) → boundAt shape t ≡ tableAt (F .tables) t .rows
+  pub rows-are : (t : ℕ) → t < length (F .tables) → boundAt (source .shape) t ≡ tableAt (F .tables) t .rows
   rows-are = tables-are .rows
 
-  pub columns-are : (t : ℕ) → t < length (F .tables) → widthAt shape t ≡ length (tableAt (F .tables) t .columns)
+  pub columns-are : (t : ℕ) → t < length (F .tables) → widthAt (source .shape) t ≡ length (tableAt (F .tables) t .columns)
   columns-are = tables-are .width
 
   pub column-is : (t c : ℕ) → t < length (F .tables) → c < length (tableAt (F .tables) t .columns)
-      → columnAt shape ends t c ≡ getD (tableAt (F .tables) t .columns) c noColumn
+      → columnAt (source .shape) ends t c ≡ getD (tableAt (F .tables) t .columns) c noColumn
   column-is = tables-are .column
 
   -- the flags are no part of it
-  pub file-kept : {shape′ : List ℕ} → FirstKept 6 shape shape′ → FileIn F bytes shape′ ends o
+  pub file-kept : {shape′ : List ℕ} → FirstKept 6 (source .shape) shape′ → FileIn F (withFlags source shape′) ends
   unfolding startAt
   file-kept {shape′} k = record {
     legal = M .legal;

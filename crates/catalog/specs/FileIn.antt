@@ -27,22 +27,38 @@ pub record TablesKnown (ts : List Table) (shape : List ℕ) (ends : List ℤ) : 
   pub width : (t : ℕ) → t < length ts → widthAt shape t ≡ length (tableAt ts t .columns)
   pub column : (t c : ℕ) → t < length ts → c < length (tableAt ts t .columns) → columnAt shape ends t c ≡ getD (tableAt ts t .columns) c noColumn
 
-pub record FileIn (F : File) (bytes shape : List ℕ) (ends : List ℤ) (o : Outline) : Type 0 where
+-- where a file stands, but for the ends of its ranges, which an evaluation is not given
+pub record Source : Type 0 where
+  pub bytes : List ℕ
+  pub shape : List ℕ
+  pub outline : Outline
+
+abbrev pub sourceFrom : List ℕ → List ℕ → Outline → Source
+sourceFrom bytes shape o = record { bytes = bytes; shape = shape; outline = o }
+
+-- the same frames, with other flags
+abbrev pub withFlags : Source → List ℕ → Source
+withFlags source shape = record { bytes = source .bytes; shape = shape; outline = source .outline }
+
+pub record FileIn (F : File) (source : Source) (ends : List ℤ) : Type 0 where
   pub legal : Legal F
-  pub sized : length shape ≡ 128
-  pub tables : o .tables ≡ length (F .tables)
-  pub keys : o .keys ≡ length (F .keys)
-  pub relations : o .relations ≡ length (F .tables) + length (F .views)
+  pub sized : length (source .shape) ≡ 128
+  pub tables : source .outline .tables ≡ length (F .tables)
+  pub keys : source .outline .keys ≡ length (F .keys)
+  pub relations : source .outline .relations ≡ length (F .tables) + length (F .views)
   -- the frame of each view, and those of the foreign keys, one behind the other
-  pub views : (v : ℕ) (q : View) → query (length (F .tables)) F v ≡ some q → frameIn bytes shape v ≡ viewBytes q
-  pub foreign : (rest : List ℕ) × (drop (o .foreign) bytes ≡ pack (map keyBytes (F .keys)) ++ rest)
+  pub views : (v : ℕ) (q : View) → query (length (F .tables)) F v ≡ some q → frameIn (source .bytes) (source .shape) v ≡ viewBytes q
+  pub foreign : (rest : List ℕ) × (drop (source .outline .foreign) (source .bytes) ≡ pack (map keyBytes (F .keys)) ++ rest)
   -- the row bound and the ranges of each relation, and the key of each table
-  pub known : (i : ℕ) → schemaIn shape ends i ≡ schema (schemas F) i
-  pub masks : (i : ℕ) → i < length (F .tables) → maskAt shape i ≡ maskOf (tableAt (F .tables) i .key)
+  pub known : (i : ℕ) → schemaIn (source .shape) ends i ≡ schema (schemas F) i
+  pub masks : (i : ℕ) → i < length (F .tables) → maskAt (source .shape) i ≡ maskOf (tableAt (F .tables) i .key)
   -- "some table has a row"
-  pub filled : o .filled ≡ any (λ t. isPos (t .rows)) (F .tables)
+  pub filled : source .outline .filled ≡ any (λ t. isPos (t .rows)) (F .tables)
 
 -- ---- the plan of an accepted file
+
+abbrev pub sourceOf : Plan → Source
+sourceOf p = sourceFrom (p .bytes) (p .shape) (p .outline)
 
 abbrev pub goalOf : GoalHere → Goal
 goalOf g = record { view = g .view; negative = g .negative }
@@ -50,7 +66,7 @@ goalOf g = record { view = g .view; negative = g .negative }
 pub record PlanOf (F : File) (p : Plan) : Type 0 where
   pub number : p .number ≡ 0
   pub line : p .line ≡ 0
-  pub file : FileIn F (p .bytes) (p .shape) (p .ends) (p .outline)
+  pub file : FileIn F (sourceOf p) (p .ends)
   pub goal : goalOf (p .goal) ≡ F .goal
   pub candidates-are : p .candidates ≡ candidates F
 

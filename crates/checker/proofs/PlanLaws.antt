@@ -32,7 +32,7 @@ use Rattle.language.proofs.Accepted.{LegalDraft, legal-file, draft-file, Drafte
 use Rattle.language.proofs.Turns.{draft, stage-views}
 use Rattle.catalog.specs.Arrays.{startAt}
 use Rattle.catalog.specs.Frames.{frameAt}
-use Rattle.catalog.specs.FileIn.{TablesKnown, FileIn, goalOf}
+use Rattle.catalog.specs.FileIn.{TablesKnown, sourceFrom, FileIn, goalOf}
 use Rattle.catalog.specs.declared.plan.Plan.{Plan}
 use Rattle.catalog.proofs.FileLaws.{table-schema, tables-in, schema-kept}
 use Rattle.checker.specs.CandidateCount.{tooMany, CandidatesOf}
@@ -127,7 +127,7 @@ module _ (text : List ℕ) (r : Frames) (fs : List (List ℕ)) (e : framesOf tex
         }
 
     file-in : {n : ℕ} (k : Ready n) (p : Plan) → PlanFrom (r .bytes) (w .state) shape ends n p → candidates (fileAt (k .draft-is) (k .goal-is)) ≤ candidateLimit
-        → FileIn (fileAt (k .draft-is) (k .goal-is)) (r .bytes) (p .shape) ends (p .outline)
+        → FileIn (fileAt (k .draft-is) (k .goal-is)) (sourceFrom (r .bytes) (p .shape) (p .outline)) ends
     file-in k p P few =
         let F = fileAt (k .draft-is) (k .goal-is) in
         let s = k .held .counts in

@@ -2,7 +2,7 @@
 use mathlib.Core.Path.{_≡_, refl, sym, ap, ap₂, _∙_}
 use mathlib.Core.Bool.{cond}
 use mathlib.Core.List.{List, _++_, map}
-use Prim.Native.Nat.{ℕ, _+_, _-_, _≤_, _<_, min}
+use Prim.Native.Nat.{ℕ, _+_, _≤_, _<_, min}
 use native.Mathlib.Omega.{arith}
 use borrow.Author.Tests.{lt-ltb, ltb-true, ltb-false, eq-eqb, ne-eqb}
 use lib.Dec.{ltb, eqb}
@@ -11,23 +11,22 @@ use lib.ListN.{length, drop, replicate}
 use Rattle.value.specs.Value.{Value, shown}
 use Rattle.value.proofs.Decides.{by-test}
 use Rattle.meaning.specs.Syntax.{File}
-use Rattle.meaning.specs.Candidates.{candidates, cells}
+use Rattle.meaning.specs.Candidates.{candidates}
 use Rattle.meaning.specs.Look.{Answer, After, zeros, workSize}
-use Rattle.meaning.specs.Decided.{seek, refusal, isCaseAt, shownIn, afterSearch, look}
+use Rattle.meaning.specs.Decided.{refusal, shownIn, afterSearch, look}
 use Rattle.meaning.proofs.LookTests.{look-short, look-late, look-on, search-case, search-none}
 use Rattle.language.specs.Check.{Outcome}
 use Rattle.language.specs.FileOf.{fileOf}
 use Rattle.checker.specs.Plans.{Plans}
-use Rattle.catalog.specs.FileIn.{FileIn, goalOf}
-use Rattle.catalog.specs.declared.outline.Outline.{Outline}
-use Rattle.catalog.specs.declared.plan.Goal.{Goal}
+use Rattle.catalog.specs.FileIn.{sourceOf, PlanOf}
 use Rattle.catalog.specs.declared.plan.Plan.{Plan}
-use Rattle.look.specs.Cells.{codesOf, cellsIn, CellsOf}
-use Rattle.look.specs.Moves.{Digits}
-use Rattle.look.specs.Scans.{Searched}
+use Rattle.look.specs.Cells.{codesOf, CellsOf}
+use Rattle.look.specs.Moves.{placesFrom, Digits}
+use Rattle.look.specs.Scans.{FirstFound, Searched}
 use Rattle.look.specs.Buffers.{Shows}
 use Rattle.look.specs.Looks.{answerOf, Concludes, Looked, LooksAt}
 use Rattle.language.specs.LookOf.{lookAt, lookOf}
+use Rattle.look.specs.declared.scan.Span.{Span}
 use Rattle.look.specs.declared.Answer.{Answer as Answered}
 use Rattle.look.specs.declared.Answer.the-variants.{Case, NoCase, Spent, Refused}
 use Rattle.look.proofs.Standing.{digits-given}
@@ -45,63 +44,71 @@ concluded-spent {end} {n} h = record { concludes = rw (ne-eqb end n h) }
 zeros-same : (a b : List ℤ) → length a ≡ length b → zeros a ≡ zeros b
 zeros-same a b e = ap (λ n. replicate n (pos 0)) e
 
-digits : {F : File} {bytes shape : List ℕ} {ends : List ℤ} {o : Outline} {m : ℕ} {codes : List ℕ} → FileIn F bytes shape ends o
-    → CellsOf shape (o .tables) (replicate 512 0) m codes → Digits F shape ends codes m
-digits M C = digits-given M C refl
+-- the codes that a look at a plan works out
+abbrev pub Coded : Plan → ℕ → List ℕ → Type 0
+Coded p cells codes = CellsOf (p .shape) (p .outline .tables) (replicate 512 0) cells codes
 
-pub finds-short : {bytes shape : List ℕ} {ends : List ℤ} {o : Outline} {g : Goal} {n start count : ℕ} {work inst : List ℤ} {m : ℕ} {codes : List ℕ}
-    → CellsOf shape (o .tables) (replicate 512 0) m codes → length inst < m → Looked bytes shape ends o g n start count work inst (Refused 12 0) work inst
-finds-short {start = start} {count} {work} {inst} C h = record {
-  finds = λ F M f e whole. sym (look-short F start count work inst whole (omega (arith, digits M C .number)));
-}
+module _ {p : Plan} where
+  digits : {F : File} {cells : ℕ} {codes : List ℕ} → PlanOf F p → Coded p cells codes → Digits F (placesFrom (p .shape) (p .ends) codes cells)
+  digits P C = digits-given (P .file) C refl
 
-pub finds-late : {bytes shape : List ℕ} {ends : List ℤ} {o : Outline} {g : Goal} {n start count : ℕ} {work inst : List ℤ} {m : ℕ} {codes : List ℕ}
-    → CellsOf shape (o .tables) (replicate 512 0) m codes → m ≤ length inst → n < start
-    → Looked bytes shape ends o g n start count work inst (Refused 13 0) work inst
-finds-late {start = start} {count} {work} {inst} C h l = record {
-  finds = λ F M f e whole. sym (look-late F start count work inst whole (omega (arith, digits M C .number)) (omega arith));
-}
+  module _ {start count : ℕ} {work inst : List ℤ} where
+    pub finds-short : {cells : ℕ} {codes : List ℕ} → Coded p cells codes → length inst < cells → Looked p start count work inst (Refused 12 0) work inst
+    finds-short C h = record {
+      finds = λ F P whole. sym (look-short F start count work inst whole (omega (arith, digits P C .number)));
+    }
+
+    pub finds-late : {cells : ℕ} {codes : List ℕ} → Coded p cells codes → cells ≤ length inst → p .candidates < start
+        → Looked p start count work inst (Refused 13 0) work inst
+    finds-late C h l = record {
+      finds = λ F P whole. sym (look-late F start count work inst whole (omega (arith, digits P C .number)) (omega (arith, P .candidates-are)));
+    }
+
+-- the span of a look at a plan
+abbrev spanOf : Plan → ℕ → ℕ → ℕ → Span
+spanOf p cells start end = record { outline = p .outline; goal = p .goal; cells = cells; start = start; end = end }
 
 -- the search of a look that is not refused has come to k
-pub record Sought (bytes shape : List ℕ) (ends : List ℤ) (o : Outline) (g : Goal) (n start count : ℕ) (work inst : List ℤ) (codes : List ℕ) (m end k : ℕ) (work₁ : List ℤ) : Type 0 where
-  pub coded : CellsOf shape (o .tables) (replicate 512 0) m codes
-  pub room : m ≤ length inst
-  pub from : start ≤ n
-  pub to : end ≡ min (start + count) n
-  pub search : Searched bytes shape ends o g codes m start end work k work₁
+pub record Sought (p : Plan) (start count : ℕ) (work inst : List ℤ) (end k : ℕ) (work₁ : List ℤ) : Type 0 where
+  pub codes : List ℕ
+  pub cells : ℕ
+  pub coded : Coded p cells codes
+  pub room : cells ≤ length inst
+  pub from : start ≤ p .candidates
+  pub to : end ≡ min (start + count) (p .candidates)
+  pub search : Searched (sourceOf p) (p .ends) codes (spanOf p cells start end) work k work₁
 
-module _ {bytes shape : List ℕ} {ends : List ℤ} {o : Outline} {g : Goal} {n start count : ℕ} {work inst : List ℤ} {codes : List ℕ} {m end k : ℕ} {work₁ : List ℤ}
-    (S : Sought bytes shape ends o g n start count work inst codes m end k work₁) where
-  module _ (F : File) (M : FileIn F bytes shape ends o) (f : goalOf g ≡ F .goal) (e : n ≡ candidates F) (whole : workSize ≤ length work) where
-    found : (k ≡ seek (isCaseAt F) start (end - start)) × (k < end → cellsIn work₁ (codesOf F) ≡ cells F k)
-    found = S .search .found F M f (digits M (S .coded)) whole (omega (arith, S .from, S .to))
+module _ {p : Plan} {start count : ℕ} {work inst : List ℤ} {end k : ℕ} {work₁ : List ℤ} (S : Sought p start count work inst end k work₁) where
+  module _ (F : File) (P : PlanOf F p) (whole : workSize ≤ length work) where
+    found : FirstFound F (spanOf p (S .cells) start end) k work₁
+    found = S .search .found F (P .file) (P .goal) (digits P (S .coded)) whole (omega (arith, S .from, S .to))
 
     looks : look F start count work inst ≡ afterSearch F end k work inst
     looks =
-        look-on F start count work inst end whole (omega (arith, S .room, digits M (S .coded) .number)) (omega (arith, S .from))
-        (S .to ∙ ap (min (start + count)) e)
-        ∙ ap (λ i. afterSearch F end i work inst) (sym (found .0))
+        look-on F start count work inst end whole (omega (arith, S .room, digits P (S .coded) .number)) (omega (arith, S .from, P .candidates-are))
+        (S .to ∙ ap (min (start + count)) (P .candidates-are))
+        ∙ ap (λ i. afterSearch F end i work inst) (sym (found .first))
 
-  pub finds-case : {work₂ inst₂ : List ℤ} → k < end → Shows codes m work₁ inst inst₂ → work₂ ≡ zeros work₁
-      → Looked bytes shape ends o g n start count work inst (Case k) work₂ inst₂
+  pub finds-case : {work₂ inst₂ : List ℤ} → k < end → Shows (S .codes) (S .cells) work₁ inst inst₂ → work₂ ≡ zeros work₁
+      → Looked p start count work inst (Case k) work₂ inst₂
   finds-case {work₂} {inst₂} h W z = record {
-    finds = λ F M f e whole.
-        let D : Digits F shape ends codes m = digits M (S .coded) in
+    finds = λ F P whole.
+        let D = digits P (S .coded) in
         let w : work₂ ≡ zeros work = z ∙ zeros-same work₁ work (S .search .length-kept) in
         let i : inst₂ ≡ shownIn F k inst =
         W .shows (codesOf F) (D .codes-are) (S .room)
-        ∙ ap₂ (λ (a : List Value) (j : ℕ). map shown a ++ drop j inst) (found F M f e whole .1 h) (sym (D .number)) in
-        ap₂ (λ (a b : List ℤ). After.after (Answer.case k) a b) w i ∙ sym (looks F M f e whole ∙ search-case F work inst end k h);
+        ∙ ap₂ (λ (a : List Value) (j : ℕ). map shown a ++ drop j inst) (found F P whole .cells h) (sym (D .number)) in
+        ap₂ (λ (a b : List ℤ). After.after (Answer.case k) a b) w i ∙ sym (looks F P whole ∙ search-case F work inst end k h);
   }
 
-  pub finds-none : {work₂ : List ℤ} {r : Answered} → end ≤ k → work₂ ≡ zeros work₁ → Concludes end n r
-      → Looked bytes shape ends o g n start count work inst r work₂ inst
+  pub finds-none : {work₂ : List ℤ} {r : Answered} → end ≤ k → work₂ ≡ zeros work₁ → Concludes end (p .candidates) r
+      → Looked p start count work inst r work₂ inst
   finds-none {work₂} {r} h z R = record {
-    finds = λ F M f e whole.
+    finds = λ F P whole.
         let w : work₂ ≡ zeros work = z ∙ zeros-same work₁ work (S .search .length-kept) in
         let a : answerOf r ≡ cond (eqb end (candidates F)) Answer.noCase (Answer.spent end) =
-        R .concludes ∙ ap (λ j. cond (eqb end j) Answer.noCase (Answer.spent end)) e in
-        ap₂ (λ (a : Answer) (b : List ℤ). After.after a b inst) a w ∙ sym (looks F M f e whole ∙ search-none F work inst end k h);
+        R .concludes ∙ ap (λ j. cond (eqb end j) Answer.noCase (Answer.spent end)) (P .candidates-are) in
+        ap₂ (λ (a : Answer) (b : List ℤ). After.after a b inst) a w ∙ sym (looks F P whole ∙ search-none F work inst end k h);
   }
 
 -- ---- a look at a plan
@@ -130,14 +137,13 @@ module _ {p : Plan} {start count : ℕ} {work inst : List ℤ} where
   }
 
   pub at-file : {r : Answered} {work′ inst′ : List ℤ} → length work′ ≡ length work → length inst′ ≡ length inst → workSize ≤ length work
-      → p .number ≡ 0 → Looked (p .bytes) (p .shape) (p .ends) (p .outline) (p .goal) (p .candidates) start count work inst r work′ inst′
-      → LooksAt p start count work inst r work′ inst′
+      → p .number ≡ 0 → Looked p start count work inst r work′ inst′ → LooksAt p start count work inst r work′ inst′
   at-file w i whole z L = record {
     work-size = w;
     inst-size = i;
     short = λ h. absurd (omega arith);
     refused = λ _ k. absurd (k z);
-    accepted = λ F P. L .finds F (P .file) (P .goal) (P .candidates-are) whole;
+    accepted = λ F P. L .finds F P whole;
   }
 
 -- ---- a look at a text

@@ -18,7 +18,7 @@ use Rattle.catalog.proofs.FileLaws.{noColumn}
 use Rattle.store.specs.Layout.{area, putCell}
 use Rattle.store.proofs.CellLaws.{put-cell-length}
 use Rattle.look.specs.Cells.{codesOf, cellsIn}
-use Rattle.look.specs.Moves.{codeColumn, Digits, DigitPut, CandidatePut, Moved}
+use Rattle.look.specs.Moves.{codeColumn, CellPlaces, Digits, DigitPut, CandidatePut, Moved}
 use Rattle.look.specs.declared.moves.Quotients.{Quotients}
 use Rattle.look.proofs.Distinct.{codes-rise, rising-within, cell-put}
 use Rattle.look.proofs.DigitLaws.{same-leading, drop-values, values-step, quotient-step, column-legal, legal-size, digit-held}
@@ -70,15 +70,16 @@ pub record Going (F : File) (k next : ℕ) (before : List Value) (work : List �
   pub first : take j (cellsIn work (codesOf F)) ≡ take j before
   pub rest : drop j (cellsIn work (codesOf F)) ≡ values (drop j (cellColumns (F .tables))) next
 
-pub record Under (shape : List ℕ) (ends : List ℤ) (codes : List ℕ) (n k next : ℕ) (work₀ work : List ℤ) (j : ℕ) (q : Quotients) : Type 0 where
+pub record Under (p : CellPlaces) (k next : ℕ) (work₀ work : List ℤ) (j : ℕ) (q : Quotients) : Type 0 where
   pub length-kept : length work ≡ length work₀
-  pub bound : j ≤ n
-  pub going : (F : File) → Digits F shape ends codes n → area ≤ length work₀ → Going F k next (cellsIn work₀ (codesOf F)) work j q
+  pub bound : j ≤ p .cells
+  pub going : (F : File) → Digits F p → area ≤ length work₀ → Going F k next (cellsIn work₀ (codesOf F)) work j q
 
 -- no cell yet
-going-first : {shape : List ℕ} {ends : List ℤ} {codes : List ℕ} {n : ℕ} (k next : ℕ) (work₀ : List ℤ) (F : File) → Digits F shape ends codes n
-    → Going F k next (cellsIn work₀ (codesOf F)) work₀ n (record { old = k; new = next })
-going-first {shape} {ends} {codes} {n} k next work₀ F D =
+going-first : {p : CellPlaces} (k next : ℕ) (work₀ : List ℤ) (F : File) → Digits F p
+    → Going F k next (cellsIn work₀ (codesOf F)) work₀ (p .cells) (record { old = k; new = next })
+going-first {p} k next work₀ F D =
+    let n = p .cells in
     let cs = cellColumns (F .tables) in
     let e : drop n cs ≡ [] = drop-of-length-le cs {i = n} (omega (arith, D .number)) in
     let f : drop n (cellsIn work₀ (codesOf F)) ≡ [] =
@@ -96,10 +97,13 @@ drop-set (y ∷ l) zero u t = refl
 drop-set (y ∷ l) (suc m) u t = drop-set l m u (omega arith)
 
 -- one cell more
-going-next : {shape : List ℕ} {ends : List ℤ} {codes : List ℕ} {n k next : ℕ} (F : File) {before : List Value} {work work′ : List ℤ} {i : ℕ} {q r : Quotients}
-    → Digits F shape ends codes n → i < n → area ≤ length work
-    → Going F k next before work (suc i) q → DigitPut shape ends (getD codes i 0) q work r work′ → Going F k next before work′ i r
-going-next {shape} {ends} {codes} {n} {k} {next} F {before} {work} {work′} {i} {q} {r} D h a g p =
+going-next : {p : CellPlaces} {k next : ℕ} (F : File) {before : List Value} {work work′ : List ℤ} {i : ℕ} {q r : Quotients}
+    → Digits F p → i < p .cells → area ≤ length work
+    → Going F k next before work (suc i) q → DigitPut (p .shape) (p .ends) (getD (p .codes) i 0) q work r work′ → Going F k next before work′ i r
+going-next {p} {k} {next} F {before} {work} {work′} {i} {q} {r} D h a g put =
+    let shape = p .shape in
+    let ends = p .ends in
+    let codes = p .codes in
     let xs = codesOf F in
     let cs = cellColumns (F .tables) in
     let c = getD cs i noColumn in
@@ -108,8 +112,8 @@ going-next {shape} {ends} {codes} {n} {k} {next} F {before} {work} {work′} {i}
     let lx : i < length xs = omega (arith, D .codes-are .number) in
     let lc : i < length cs = omega (arith, D .number) in
     let L = column-legal F (D .legal) i lc in
-    let ex : getD codes i 0 ≡ x = sym (getD-take n codes i 0 h) ∙ ap (λ (l : List ℕ). getD l i 0) (D .codes-are .there) in
-    let P : DigitPut shape ends x q work r work′ = subst (λ (y : ℕ). DigitPut shape ends y q work r work′) ex p in
+    let ex : getD codes i 0 ≡ x = sym (getD-take (p .cells) codes i 0 h) ∙ ap (λ (l : List ℕ). getD l i 0) (D .codes-are .there) in
+    let P : DigitPut shape ends x q work r work′ = subst (λ (y : ℕ). DigitPut shape ends y q work r work′) ex put in
     let ec : codeColumn shape ends x ≡ c = sym (map-at (codeColumn shape ends) xs i 0 noColumn lx) ∙ ap (λ (l : List Column). getD l i noColumn) (D .columns) in
     let d = P .put c (rising-within R i lx .1) ec (legal-size c L) in
     let ev : narrowed (digit c (q .new % size c)) ≡ digit c (next / sizesProduct (drop (suc i) cs) % size c) =
@@ -143,34 +147,34 @@ rest-there {k} {next} F {work} {j} {q} e g =
     ∙ ap₂ (λ (a b : List Value). a ++ b) (g .first ∙ same-leading cs j k next (sym (g .old) ∙ e ∙ g .new)) (g .rest ∙ sym (drop-values cs j next))
     ∙ take-append-drop j (values cs next)
 
-module _ {shape : List ℕ} {ends : List ℤ} {codes : List ℕ} {n k next : ℕ} {work₀ : List ℤ} where
-  pub under-first : Under shape ends codes n k next work₀ work₀ n (record { old = k; new = next })
+module _ {p : CellPlaces} {k next : ℕ} {work₀ : List ℤ} where
+  pub under-first : Under p k next work₀ work₀ (p .cells) (record { old = k; new = next })
   under-first = record { length-kept = refl; bound = omega arith; going = λ F D a. going-first k next work₀ F D }
 
-  pub under-next : {work work′ : List ℤ} {j x : ℕ} {q r : Quotients} → 0 < j → Under shape ends codes n k next work₀ work j q → x ≡ getD codes (j - 1) 0
-      → DigitPut shape ends x q work r work′ → Under shape ends codes n k next work₀ work′ (j - 1) r
-  under-next {work} {work′} {j} {x} {q} {r} h u e p =
-      let b : j ≤ n = u .bound in
+  pub under-next : {work work′ : List ℤ} {j x : ℕ} {q r : Quotients} → 0 < j → Under p k next work₀ work j q → x ≡ getD (p .codes) (j - 1) 0
+      → DigitPut (p .shape) (p .ends) x q work r work′ → Under p k next work₀ work′ (j - 1) r
+  under-next {work} {work′} {j} {x} {q} {r} h u e put =
+      let b : j ≤ p .cells = u .bound in
       let s : j ≡ suc (j - 1) = omega arith in
-      let P : DigitPut shape ends (getD codes (j - 1) 0) q work r work′ = subst (λ (y : ℕ). DigitPut shape ends y q work r work′) e p in
+      let P : DigitPut (p .shape) (p .ends) (getD (p .codes) (j - 1) 0) q work r work′ = subst (λ (y : ℕ). DigitPut (p .shape) (p .ends) y q work r work′) e put in
       record {
-        length-kept = p .length-kept ∙ u .length-kept;
+        length-kept = put .length-kept ∙ u .length-kept;
         bound = omega arith;
         going = λ F D a. going-next F D (omega arith) (omega (arith, u .length-kept))
             (subst (λ (i : ℕ). Going F k next (cellsIn work₀ (codesOf F)) work i q) s (u .going F D a)) P;
       }
 
-  pub moved-all : {work : List ℤ} {j : ℕ} {q : Quotients} → j ≤ 0 → Under shape ends codes n k next work₀ work j q
-      → Moved shape ends codes n k next work₀ work
+  pub moved-all : {work : List ℤ} {j : ℕ} {q : Quotients} → j ≤ 0 → Under p k next work₀ work j q
+      → Moved p k next work₀ work
   moved-all h u = record { length-kept = u .length-kept; moved = λ F D a e. all-there F (omega arith) (u .going F D a) }
 
-  pub moved-enough : {work : List ℤ} {j : ℕ} {q : Quotients} → q .old ≡ q .new → Under shape ends codes n k next work₀ work j q
-      → Moved shape ends codes n k next work₀ work
+  pub moved-enough : {work : List ℤ} {j : ℕ} {q : Quotients} → q .old ≡ q .new → Under p k next work₀ work j q
+      → Moved p k next work₀ work
   moved-enough {work} {j} {q} s u = record {
     length-kept = u .length-kept;
     moved = λ F D a e. rest-there F s (subst (λ (b : List Value). Going F k next b work j q) e (u .going F D a));
   }
 
-  pub placed-all : {work : List ℤ} {j : ℕ} {q : Quotients} → j ≤ 0 → Under shape ends codes n k next work₀ work j q
-      → CandidatePut shape ends codes n next work₀ work
+  pub placed-all : {work : List ℤ} {j : ℕ} {q : Quotients} → j ≤ 0 → Under p k next work₀ work j q
+      → CandidatePut p next work₀ work
   placed-all h u = record { length-kept = u .length-kept; placed = λ F D a. all-there F (omega arith) (u .going F D a) }

@@ -14,8 +14,7 @@ use Rattle.meaning.specs.Candidates.{cellColumns, cutRows, cut, cells, database
 use Rattle.meaning.proofs.Elements.{all-append}
 use Rattle.meaning.proofs.Numbering.{length-joined, cut-joined}
 use Rattle.catalog.specs.Arrays.{widthAt, boundAt, columnAt}
-use Rattle.catalog.specs.FileIn.{FileIn}
-use Rattle.catalog.specs.declared.outline.Outline.{Outline}
+use Rattle.catalog.specs.FileIn.{Source, FileIn}
 use Rattle.catalog.proofs.FileLaws.{noColumn, rows-are, columns-are, column-is}
 use Rattle.language.specs.Legal.{Legal, LegalTable, tableAt}
 use Rattle.store.specs.Layout.{cellIn}
@@ -23,7 +22,7 @@ use Rattle.store.specs.Rows.{listed, rowIn, rowsIn}
 use Rattle.store.proofs.Listed.{listed-same, length-listed, listed-getD}
 use Rattle.store.proofs.RowLaws.{rows-length}
 use Rattle.look.specs.Cells.{code, rowCodes, tableCodes, allCodes, codesOf, cellAt, cellsIn, CellsOf}
-use Rattle.look.specs.Moves.{codeColumn, Digits}
+use Rattle.look.specs.Moves.{codeColumn, placesFrom, Digits}
 use Rattle.look.proofs.CodeLaws.{codesFrom, codes-of, codes-few, codes-same, length-codes}
 
 -- ---- what a code says
@@ -98,24 +97,24 @@ module _ (shape : List ℕ) (ends : List ℤ) where
 
 -- ---- the codes of a file in memory
 
-module _ {F : File} {bytes shape : List ℕ} {ends : List ℤ} {o : Outline} (M : FileIn F bytes shape ends o) where
-  given-codes : allCodes (boundAt shape) (widthAt shape) (o .tables) ≡ codesOf F
+module _ {F : File} {source : Source} {ends : List ℤ} (M : FileIn F source ends) where
+  given-codes : allCodes (boundAt (source .shape)) (widthAt (source .shape)) (source .outline .tables) ≡ codesOf F
   unfolding codesOf
   given-codes =
-      codes-same (o .tables) (λ t h. rows-are M t (omega (arith, h, M .tables))) (λ t h. columns-are M t (omega (arith, h, M .tables)))
+      codes-same (source .outline .tables) (λ t h. rows-are M t (omega (arith, h, M .tables))) (λ t h. columns-are M t (omega (arith, h, M .tables)))
       ∙ ap (allCodes (λ t. tableAt (F .tables) t .rows) (λ t. length (tableAt (F .tables) t .columns))) (M .tables)
 
-  given-columns : map (codeColumn shape ends) (codesOf F) ≡ cellColumns (F .tables)
+  given-columns : map (codeColumn (source .shape) ends) (codesOf F) ≡ cellColumns (F .tables)
   given-columns =
-      ap (map (codeColumn shape ends)) (codes-of F)
-      ∙ tables-columns shape ends 0 (M .legal .tables) (λ i h. let s : i ≡ 0 + i = omega arith in
-      subst (λ j. ColumnsAt shape ends j (tableAt (F .tables) i)) s (λ c. column-is M i c h))
+      ap (map (codeColumn (source .shape) ends)) (codes-of F)
+      ∙ tables-columns (source .shape) ends 0 (M .legal .tables) (λ i h. let s : i ≡ 0 + i = omega arith in
+      subst (λ j. ColumnsAt (source .shape) ends j (tableAt (F .tables) i)) s (λ c. column-is M i c h))
 
 length-codesOf : (F : File) → length (codesOf F) ≡ length (cellColumns (F .tables))
 length-codesOf F = ap length (codes-of F) ∙ length-codes 0 (F .tables)
 
-pub digits-given : {F : File} {bytes shape : List ℕ} {ends : List ℤ} {o : Outline} {codes codes′ : List ℕ} {r : ℕ} → FileIn F bytes shape ends o
-    → CellsOf shape (o .tables) codes r codes′ → length codes ≡ 512 → Digits F shape ends codes′ r
+pub digits-given : {F : File} {source : Source} {ends : List ℤ} {codes codes′ : List ℕ} {r : ℕ} → FileIn F source ends
+    → CellsOf (source .shape) (source .outline .tables) codes r codes′ → length codes ≡ 512 → Digits F (placesFrom (source .shape) ends codes′ r)
 digits-given {F} {codes = codes} {r = r} M c n =
     let same = given-codes M in
     let total : r ≡ length (codesOf F) = c .total ∙ ap length same in

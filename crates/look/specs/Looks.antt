@@ -7,12 +7,9 @@ use lib.Dec.{eqb}
 use lib.IntN.{ℤ}
 use lib.ListN.{length}
 use Rattle.meaning.specs.Syntax.{File}
-use Rattle.meaning.specs.Candidates.{candidates}
 use Rattle.meaning.specs.Look.{Answer, After, workSize}
 use Rattle.meaning.specs.Decided.{refusal, look}
-use Rattle.catalog.specs.FileIn.{FileIn, PlanOf, goalOf}
-use Rattle.catalog.specs.declared.outline.Outline.{Outline}
-use Rattle.catalog.specs.declared.plan.Goal.{Goal}
+use Rattle.catalog.specs.FileIn.{PlanOf}
 use Rattle.catalog.specs.declared.plan.Plan.{Plan}
 use Rattle.look.specs.declared.Answer.{Answer as Answered}
 use Rattle.look.specs.declared.Answer.the-variants.{Case, NoCase, Spent, Refused}
@@ -29,9 +26,9 @@ answerOf (Refused n l) = Answer.refused n l
 pub record Concludes (end n : ℕ) (r : Answered) : Type 0 where
   pub concludes : answerOf r ≡ cond (eqb end n) Answer.noCase (Answer.spent end)
 
-pub record Looked (bytes shape : List ℕ) (ends : List ℤ) (o : Outline) (g : Goal) (n start count : ℕ) (work inst : List ℤ) (r : Answered) (work′ inst′ : List ℤ) : Type 0 where
-  pub finds : (F : File) → FileIn F bytes shape ends o → goalOf g ≡ F .goal → n ≡ candidates F → workSize ≤ length work
-      → After.after (answerOf r) work′ inst′ ≡ look F start count work inst
+-- a look at the plan of a file
+pub record Looked (p : Plan) (start count : ℕ) (work inst : List ℤ) (r : Answered) (work′ inst′ : List ℤ) : Type 0 where
+  pub finds : (F : File) → PlanOf F p → workSize ≤ length work → After.after (answerOf r) work′ inst′ ≡ look F start count work inst
 
 -- a look at a plan: of the plan of a file, and of a refusal's
 pub record LooksAt (p : Plan) (start count : ℕ) (work inst : List ℤ) (r : Answered) (work′ inst′ : List ℤ) : Type 0 where

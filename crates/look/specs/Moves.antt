@@ -17,12 +17,22 @@ use Rattle.look.specs.declared.moves.Quotients.{Quotients}
 abbrev pub codeColumn : List ℕ → List ℤ → ℕ → Column
 codeColumn shape ends x = columnAt shape ends (x / 32) (x % 4)
 
+-- the codes of cells, their number, and the arrays that say the column of each
+pub record CellPlaces : Type 0 where
+  pub shape : List ℕ
+  pub ends : List ℤ
+  pub codes : List ℕ
+  pub cells : ℕ
+
+abbrev pub placesFrom : List ℕ → List ℤ → List ℕ → ℕ → CellPlaces
+placesFrom shape ends codes n = record { shape = shape; ends = ends; codes = codes; cells = n }
+
 -- the codes are those of the file's cells, and the arrays say the column of each
-pub record Digits (F : File) (shape : List ℕ) (ends : List ℤ) (codes : List ℕ) (n : ℕ) : Type 0 where
+pub record Digits (F : File) (p : CellPlaces) : Type 0 where
   pub legal : Legal F
-  pub codes-are : Codes codes n (codesOf F)
-  pub columns : map (codeColumn shape ends) (codesOf F) ≡ cellColumns (F .tables)
-  pub number : length (cellColumns (F .tables)) ≡ n
+  pub codes-are : Codes (p .codes) (p .cells) (codesOf F)
+  pub columns : map (codeColumn (p .shape) (p .ends)) (codesOf F) ≡ cellColumns (F .tables)
+  pub number : length (cellColumns (F .tables)) ≡ p .cells
 
 -- of a cell whose column is c, and which has no other digits than those of c
 pub record DigitPut (shape : List ℕ) (ends : List ℤ) (x : ℕ) (q : Quotients) (work : List ℤ) (r : Quotients) (work′ : List ℤ) : Type 0 where
@@ -30,10 +40,10 @@ pub record DigitPut (shape : List ℕ) (ends : List ℤ) (x : ℕ) (q : Quotient
   pub put : (c : Column) → x < 512 → codeColumn shape ends x ≡ c → 0 < size c
       → (work′ ≡ putCell work (x / 32) (x / 4 % 8) (x % 4) (narrowed (digit c (q .new % size c)))) × (r .old ≡ q .old / size c) × (r .new ≡ q .new / size c)
 
-pub record CandidatePut (shape : List ℕ) (ends : List ℤ) (codes : List ℕ) (n k : ℕ) (work work′ : List ℤ) : Type 0 where
+pub record CandidatePut (p : CellPlaces) (k : ℕ) (work work′ : List ℤ) : Type 0 where
   pub length-kept : length work′ ≡ length work
-  pub placed : (F : File) → Digits F shape ends codes n → area ≤ length work → cellsIn work′ (codesOf F) ≡ cells F k
+  pub placed : (F : File) → Digits F p → area ≤ length work → cellsIn work′ (codesOf F) ≡ cells F k
 
-pub record Moved (shape : List ℕ) (ends : List ℤ) (codes : List ℕ) (n k next : ℕ) (work work′ : List ℤ) : Type 0 where
+pub record Moved (p : CellPlaces) (k next : ℕ) (work work′ : List ℤ) : Type 0 where
   pub length-kept : length work′ ≡ length work
-  pub moved : (F : File) → Digits F shape ends codes n → area ≤ length work → cellsIn work (codesOf F) ≡ cells F k → cellsIn work′ (codesOf F) ≡ cells F next
+  pub moved : (F : File) → Digits F p → area ≤ length work → cellsIn work (codesOf F) ≡ cells F k → cellsIn work′ (codesOf F) ≡ cells F next

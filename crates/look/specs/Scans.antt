@@ -1,4 +1,4 @@
--- The search of a stretch of candidates. Assumes nothing: these are definitions.
+-- The search of a span of candidates. Assumes nothing: these are definitions.
 use mathlib.Core.Path.{_≡_}
 use mathlib.Core.Bool.{Bool, true}
 use mathlib.Core.List.{List}
@@ -9,14 +9,14 @@ use Rattle.meaning.specs.Syntax.{File}
 use Rattle.meaning.specs.Candidates.{cells as cellsOf}
 use Rattle.meaning.specs.Decided.{seek, isCaseAt}
 use Rattle.language.specs.Legal.{tableAt}
-use Rattle.catalog.specs.FileIn.{FileIn, goalOf}
-use Rattle.catalog.specs.declared.outline.Outline.{Outline}
+use Rattle.catalog.specs.FileIn.{Source, FileIn, goalOf}
 use Rattle.catalog.specs.declared.plan.Goal.{Goal}
 use Rattle.store.specs.Layout.{area}
 use Rattle.cases.specs.Needs.{Covers}
-use Rattle.cases.specs.Judgement.{TablesKept}
+use Rattle.cases.specs.Judgement.{Memory, TablesKept}
 use Rattle.look.specs.Cells.{codesOf, cellsIn}
-use Rattle.look.specs.Moves.{Digits}
+use Rattle.look.specs.Moves.{CellPlaces, placesFrom, Digits}
+use Rattle.look.specs.declared.scan.Span.{Span}
 
 -- from candidate k on to `next`, in a search from `start`: k is a case where it stays; else each case that is passed over has an earlier
 -- one from the start on
@@ -25,37 +25,44 @@ pub record Passed (p : ℕ → Bool) (start k next : ℕ) : Type 0 where
   pub hit : next ≡ k → p k ≡ true
   pub over : (j : ℕ) → k ≤ j → j < next → p j ≡ true → (i : ℕ) × (start ≤ i) × (i < k) × (p i ≡ true)
 
+-- where the cells of a search's candidates stand
+abbrev pub placesOf : Source → List ℤ → List ℕ → Span → CellPlaces
+placesOf source ends codes s = placesFrom (source .shape) ends codes (s .cells)
+
 -- what the search of a file rests on
-pub record Setting (F : File) (bytes shape : List ℕ) (ends : List ℤ) (o : Outline) (g : Goal) : Type 0 where
-  pub file : FileIn F bytes shape ends o
+pub record Setting (F : File) (source : Source) (ends : List ℤ) (g : Goal) : Type 0 where
+  pub file : FileIn F source ends
   pub goal : goalOf g ≡ F .goal
-  pub covers : Covers F (F .goal) shape
+  pub covers : Covers F (F .goal) (source .shape)
 
 -- the numbers of the tables' rows and the cells of candidate k stand where they should
-pub record At (F : File) (counts refuted : List ℕ) (work : List ℤ) (k : ℕ) : Type 0 where
-  pub counts-size : length counts ≡ 16
-  pub refuted-size : length refuted ≡ 16
-  pub whole : area ≤ length work
-  pub rows : (t : ℕ) → t < length (F .tables) → getD counts t 0 ≡ tableAt (F .tables) t .rows
-  pub cells : cellsIn work (codesOf F) ≡ cellsOf F k
+pub record At (F : File) (memory : Memory) (k : ℕ) : Type 0 where
+  pub counts-size : length (memory .counts) ≡ 16
+  pub signs-size : length (memory .signs) ≡ 16
+  pub whole : area ≤ length (memory .work)
+  pub rows : (t : ℕ) → t < length (F .tables) → getD (memory .counts) t 0 ≡ tableAt (F .tables) t .rows
+  pub cells : cellsIn (memory .work) (codesOf F) ≡ cellsOf F k
 
 -- ---- what the code gives
 
-pub record Tested (bytes shape : List ℕ) (o : Outline) (g : Goal) (k : ℕ)
-    (counts refuted : List ℕ) (work : List ℤ) (r : ℕ) (counts′ refuted′ : List ℕ) (work′ : List ℤ) : Type 0 where
-  pub kept : TablesKept (o .tables) counts work counts′ work′
-  pub refuted-size : length refuted′ ≡ length refuted
+-- of candidate k in the search of a span
+pub record Tested (source : Source) (s : Span) (k : ℕ) (memory : Memory) (r : ℕ) (memory′ : Memory) : Type 0 where
+  pub kept : TablesKept (source .outline .tables) memory memory′
   pub bound : r ≤ 18446744073709551615
   pub follows : k ≤ r
-  pub passed : (F : File) {ends : List ℤ} → Setting F bytes shape ends o g → At F counts refuted work k → (start : ℕ) → Passed (isCaseAt F) start k r
+  pub passed : (F : File) {ends : List ℤ} → Setting F source ends (s .goal) → At F memory k → Passed (isCaseAt F) (s .start) k r
 
-pub record Scans (bytes shape : List ℕ) (ends : List ℤ) (o : Outline) (g : Goal) (codes : List ℕ) (n start end : ℕ)
-    (counts refuted : List ℕ) (work : List ℤ) (r : ℕ) (work′ : List ℤ) : Type 0 where
-  pub length-kept : length work′ ≡ length work
-  pub found : (F : File) → Setting F bytes shape ends o g → Digits F shape ends codes n → At F counts refuted work start → start ≤ end
-      → (r ≡ seek (isCaseAt F) start (end - start)) × (r < end → cellsIn work′ (codesOf F) ≡ cellsOf F r)
+-- r is the first case of the span or its end, and the cells of a case stand in the work area
+pub record FirstFound (F : File) (s : Span) (r : ℕ) (work : List ℤ) : Type 0 where
+  pub first : r ≡ seek (isCaseAt F) (s .start) (s .end - s .start)
+  pub cells : r < s .end → cellsIn work (codesOf F) ≡ cellsOf F r
 
-pub record Searched (bytes shape : List ℕ) (ends : List ℤ) (o : Outline) (g : Goal) (codes : List ℕ) (n start end : ℕ) (work : List ℤ) (r : ℕ) (work′ : List ℤ) : Type 0 where
+pub record Scans (source : Source) (ends : List ℤ) (codes : List ℕ) (s : Span) (memory : Memory) (r : ℕ) (work′ : List ℤ) : Type 0 where
+  pub length-kept : length work′ ≡ length (memory .work)
+  pub found : (F : File) → Setting F source ends (s .goal) → Digits F (placesOf source ends codes s) → At F memory (s .start) → s .start ≤ s .end
+      → FirstFound F s r work′
+
+pub record Searched (source : Source) (ends : List ℤ) (codes : List ℕ) (s : Span) (work : List ℤ) (r : ℕ) (work′ : List ℤ) : Type 0 where
   pub length-kept : length work′ ≡ length work
-  pub found : (F : File) → FileIn F bytes shape ends o → goalOf g ≡ F .goal → Digits F shape ends codes n → area ≤ length work → start ≤ end
-      → (r ≡ seek (isCaseAt F) start (end - start)) × (r < end → cellsIn work′ (codesOf F) ≡ cellsOf F r)
+  pub found : (F : File) → FileIn F source ends → goalOf (s .goal) ≡ F .goal → Digits F (placesOf source ends codes s) → area ≤ length work
+      → s .start ≤ s .end → FirstFound F s r work′

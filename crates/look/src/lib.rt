@@ -4,10 +4,9 @@ pub mod cells;
 pub mod moves;
 pub mod scan;
 
-use catalog::outline::Outline;
-use catalog::plan::Goal;
 use catalog::plan::Plan;
 use checker::plan;
+use scan::Span;
 ghost use mathlib.Core.Path.{_≡_};
 ghost use Rattle.meaning.specs.Look.{After};
 ghost use Rattle.look.specs.Looks.{answerOf, Concludes, Looked, LooksAt};
@@ -34,23 +33,18 @@ fn concluded(end: u64, n: u64) -> Answer
     Answer::Spent(end)
 }
 
-// A look at an accepted file of n candidates.
-fn looked(
-    bytes: &[u8],
-    shape: &mut [u8],
-    ends: &[i32],
-    o: Outline,
-    goal: Goal,
-    n: u64,
-    start: u64,
-    count: u64,
-    work: &mut [i32],
-    instance: &mut [i16],
-) -> Answer
-    ensures { λ r. ⌜ Looked (now (bytes .entry)) (now (shape .entry)) (now (ends .entry)) o goal n start count (now (work .entry)) (now (instance .entry)) r (now (work .exit)) (now (instance .exit)) ⌝ }
+// A look at the plan of an accepted file.
+fn looked(p: Plan, start: u64, count: u64, work: &mut [i32], instance: &mut [i16]) -> Answer
+    ensures { λ r. ⌜ Looked p start count (now (work .entry)) (now (instance .entry)) r (now (work .exit)) (now (instance .exit)) ⌝ }
 {
+    let bytes = p.bytes;
+    let mut shape = p.shape;
+    let ends = p.ends;
+    let outline = p.outline;
+    let goal = p.goal;
+    let n = p.candidates;
     let mut codes = [0u16; 512];
-    let cells = cells::cells_of(shape, o.tables, &mut codes);
+    let cells = cells::cells_of(&shape, outline.tables, &mut codes);
     if instance.len() < (cells as usize) {
         return Answer::Refused(12, 0);
     }
@@ -58,7 +52,14 @@ fn looked(
         return Answer::Refused(13, 0);
     }
     let end = buffers::end_of(start, count, n);
-    let k = scan::search(bytes, shape, ends, o, goal, &codes, cells, start, end, work);
+    let s = Span {
+        outline: outline,
+        goal: goal,
+        cells: cells,
+        start: start,
+        end: end,
+    };
+    let k = scan::search(&bytes, &mut shape, &ends, &codes, s, work);
     if k < end {
         buffers::show(&codes, cells, work, instance);
         buffers::clear(work);
@@ -80,21 +81,7 @@ pub fn look_at(p: Plan, start: u64, count: u64, work: &mut [i32], instance: &mut
     if p.number != 0 {
         return Answer::Refused(p.number, p.line);
     }
-    let bytes = p.bytes;
-    let mut shape = p.shape;
-    let ends = p.ends;
-    looked(
-        &bytes,
-        &mut shape,
-        &ends,
-        p.outline,
-        p.goal,
-        p.candidates,
-        start,
-        count,
-        work,
-        instance,
-    )
+    looked(p, start, count, work, instance)
 }
 
 // A look: for every text, start, count and buffers, the answer and what the buffers then hold.

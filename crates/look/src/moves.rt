@@ -5,7 +5,7 @@ use value::domain::Domain;
 ghost use mathlib.Core.Path.{_≡_};
 ghost use Prim.Native.Nat.{_<_};
 ghost use Rattle.value.specs.Machine.{columnOf};
-ghost use Rattle.look.specs.Moves.{codeColumn, DigitPut, CandidatePut, Moved};
+ghost use Rattle.look.specs.Moves.{codeColumn, placesFrom, DigitPut, CandidatePut, Moved};
 
 // What is left of two candidate numbers before the digits that are done.
 struct Quotients {
@@ -52,7 +52,7 @@ pub fn put_candidate(
     k: u64,
     work: &mut [i32],
 )
-    ensures { λ _. ⌜ CandidatePut (now (shape .entry)) (now (ends .entry)) (now (codes .entry)) cells k (now (work .entry)) (now (work .exit)) ⌝ }
+    ensures { λ _. ⌜ CandidatePut (placesFrom (now (shape .entry)) (now (ends .entry)) (now (codes .entry)) cells) k (now (work .entry)) (now (work .exit)) ⌝ }
 {
     let mut q = Quotients { old: k, new: k };
     let mut j = cells;
@@ -74,7 +74,7 @@ pub fn move_to(
     next: u64,
     work: &mut [i32],
 )
-    ensures { λ _. ⌜ Moved (now (shape .entry)) (now (ends .entry)) (now (codes .entry)) cells k next (now (work .entry)) (now (work .exit)) ⌝ }
+    ensures { λ _. ⌜ Moved (placesFrom (now (shape .entry)) (now (ends .entry)) (now (codes .entry)) cells) k next (now (work .entry)) (now (work .exit)) ⌝ }
 {
     let mut q = Quotients { old: k, new: next };
     let mut j = cells;

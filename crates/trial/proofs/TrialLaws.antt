@@ -17,8 +17,7 @@ use Rattle.meaning.proofs.Relations.{rows-mean}
 use Rattle.language.specs.Check.{Outcome}
 use Rattle.language.specs.FileOf.{fileOf}
 use Rattle.language.proofs.TextLaws.{accepted-text}
-use Rattle.catalog.specs.FileIn.{TablesCounted, goalOf}
-use Rattle.catalog.specs.declared.outline.Outline.{Outline}
+use Rattle.catalog.specs.FileIn.{Source, withFlags, sourceOf, TablesCounted, goalOf}
 use Rattle.catalog.specs.declared.plan.Goal.{Goal}
 use Rattle.catalog.specs.declared.plan.Plan.{Plan}
 use Rattle.catalog.proofs.FileLaws.{file-kept}
@@ -26,7 +25,7 @@ use Rattle.checker.specs.Plans.{Plans}
 use Rattle.store.specs.Layout.{area}
 use Rattle.cases.specs.TablesIn.{TablesIn}
 use Rattle.cases.specs.Needs.{GoalIn, AllSet, NeedsOf}
-use Rattle.cases.specs.Judgement.{Ready, Evaluates, IsCase}
+use Rattle.cases.specs.Judgement.{Memory, memoryFrom, Ready, Evaluates, IsCase}
 use Rattle.cases.proofs.Preparing.{counts-are, tables-kept, all-covers}
 use Rattle.trial.specs.Tried.{TablesStand, Evaluated, ByAlgebra, EveryRelation, Tried}
 
@@ -39,30 +38,30 @@ refused-trial (Outcome.accepted F) p h k counts work = absurd (k (h .number))
 
 -- ---- an accepted text
 
-pub every-relation : {bytes shape shape₁ shape₂ : List ℕ} {o : Outline} {g : Goal} {counts counts₁ counts₂ counts₃ refuted₁ refuted₂ : List ℕ} {work work₂ work₃ : List ℤ} {b : Bool}
-    → TablesCounted shape (o .tables) counts counts₁ → NeedsOf bytes shape o g shape₁
-    → IsCase bytes shape₁ o g counts₁ (replicate 16 0) work b counts₂ refuted₁ work₂ → AllSet 16 shape₁ shape₂
-    → Evaluates bytes shape₂ o counts₂ refuted₁ work₂ counts₃ refuted₂ work₃ → EveryRelation bytes shape o g counts work b counts₃ work₃
-every-relation {shape₁ = shape₁} {shape₂} {g = g} {counts₁ = counts₁} {counts₂} {refuted₁ = refuted₁} {work = work} {work₂} C N J S E = record {
+pub every-relation : {source : Source} {shape₁ shape₂ : List ℕ} {g : Goal} {counts counts₁ : List ℕ} {work : List ℤ} {memory₂ memory₃ : Memory} {b : Bool}
+    → TablesCounted (source .shape) (source .outline .tables) counts counts₁ → NeedsOf source g shape₁
+    → IsCase (withFlags source shape₁) g (memoryFrom counts₁ (replicate 16 0) work) b memory₂ → AllSet 16 shape₁ shape₂
+    → Evaluates (withFlags source shape₂) memory₂ memory₃ → EveryRelation source g counts work b (memory₃ .counts) (memory₃ .work)
+every-relation {source} {shape₁} {shape₂} {g} {counts₁ = counts₁} {work} {memory₂} C N J S E = record {
   evaluated = λ F M e d shaped T whole size.
       let tables : TablesIn F d counts₁ work = record { table = λ t h. rw (counts-are M C size t h) (T .table t h) } in
       let goal : GoalIn F (goalOf g) = subst (GoalIn F) (sym e) (M .legal .goal) in
       let M₁ = file-kept M (N .first) in
-      let first : Ready F (goalOf g) d shape₁ counts₁ (replicate 16 0) work = record {
+      let first : Ready F (goalOf g) d (withFlags source shape₁) (memoryFrom counts₁ (replicate 16 0) work) = record {
         covers = N .covers M goal;
         shaped = shaped;
         tables = tables;
         whole = whole;
         counts-size = C .size ∙ size;
-        refuted-size = refl;
+        signs-size = refl;
       } in
-      let second : Ready F (goalOf g) d shape₂ counts₂ refuted₁ work₂ = record {
+      let second : Ready F (goalOf g) d (withFlags source shape₂) memory₂ = record {
         covers = all-covers (M .legal) (M₁ .sized) S (goalOf g) goal;
         shaped = shaped;
         tables = tables-kept (M .tables) (J .kept) tables;
         whole = omega (arith, J .kept .size);
         counts-size = J .kept .counts-size ∙ C .size ∙ size;
-        refuted-size = J .refuted-size;
+        signs-size = J .kept .signs-size;
       } in
       record {
         case = ap (λ x. cond x 1 0) (J .case M₁ first ∙ ap (λ x. isCase F x d) e);
@@ -71,7 +70,7 @@ every-relation {shape₁ = shape₁} {shape₂} {g = g} {counts₁ = counts₁} 
 }
 
 pub accepted-trial : (out : Outcome) (p : Plan) {counts counts′ : List ℕ} {work work′ : List ℤ} {b : Bool} {r : ℕ} → Plans out p → p .number ≡ 0
-    → EveryRelation (p .bytes) (p .shape) (p .outline) (p .goal) counts work b counts′ work′ → r ≡ cond b 1 0 → Tried out counts work r counts′ work′
+    → EveryRelation (sourceOf p) (p .goal) counts work b counts′ work′ → r ≡ cond b 1 0 → Tried out counts work r counts′ work′
 accepted-trial (Outcome.refused n line) p h z E v = absurd (h .2 (sym (h .0) ∙ z))
 accepted-trial (Outcome.accepted F) p {counts′ = counts′} {work′ = work′} h z E v = λ d shaped T whole size.
     subst (λ k. Evaluated F d k counts′ work′) (sym v) (E .evaluated F (h .file) (h .goal) d shaped T whole size)

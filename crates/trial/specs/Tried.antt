@@ -15,8 +15,7 @@ use Rattle.meaning.specs.Cases.{Case}
 use Rattle.meaning.specs.Decided.{isCase}
 use Rattle.language.specs.Check.{Outcome}
 use Rattle.language.specs.Legal.{tableAt}
-use Rattle.catalog.specs.FileIn.{FileIn, goalOf}
-use Rattle.catalog.specs.declared.outline.Outline.{Outline}
+use Rattle.catalog.specs.FileIn.{Source, FileIn, goalOf}
 use Rattle.catalog.specs.declared.plan.Goal.{Goal}
 use Rattle.store.specs.Layout.{area}
 use Rattle.store.specs.Rows.{rowsIn}
@@ -38,9 +37,9 @@ pub record ByAlgebra (F : File) (d : Database) (r : ℕ) (counts : List ℕ) (wo
   pub relation : (i : ℕ) → i < length (F .tables) + length (F .views) → MeaningOf F d i (rowsIn work i (columnsOf (schemas F) i) (getD counts i 0))
 
 -- of every file in memory, with its goal
-pub record EveryRelation (bytes shape : List ℕ) (o : Outline) (g : Goal) (counts : List ℕ) (work : List ℤ) (r : Bool) (counts′ : List ℕ) (work′ : List ℤ) : Type 0 where
-  pub evaluated : (F : File) {ends : List ℤ} → FileIn F bytes shape ends o → goalOf g ≡ F .goal → (d : Database) → Shaped F d → TablesStand F d work → area ≤ length work
-      → length counts ≡ 16 → Evaluated F d (cond r 1 0) counts′ work′
+pub record EveryRelation (source : Source) (g : Goal) (counts : List ℕ) (work : List ℤ) (r : Bool) (counts′ : List ℕ) (work′ : List ℤ) : Type 0 where
+  pub evaluated : (F : File) {ends : List ℤ} → FileIn F source ends → goalOf g ≡ F .goal → (d : Database) → Shaped F d → TablesStand F d work
+      → area ≤ length work → length counts ≡ 16 → Evaluated F d (cond r 1 0) counts′ work′
 
 -- "A refusal returns its number and a line .. no buffer changes"
 abbrev pub Tried : Outcome → List ℕ → List ℤ → ℕ → List ℕ → List ℤ → Type 0

@@ -6,6 +6,7 @@ use catalog::outline::Outline;
 use catalog::plan::Goal;
 use checker::plan;
 ghost use Rattle.language.specs.FileOf.{fileOf};
+ghost use Rattle.catalog.specs.FileIn.{sourceFrom};
 ghost use Rattle.trial.specs.Tried.{EveryRelation, Tried};
 
 // Whether the database is a case; then every relation is evaluated.
@@ -17,14 +18,15 @@ fn every_relation(
     counts: &mut [u8],
     work: &mut [i32],
 ) -> bool
-    ensures { λ r. ⌜ EveryRelation (now (bytes .entry)) (now (shape .entry)) o goal (now (counts .entry)) (now (work .entry)) r (now (counts .exit)) (now (work .exit)) ⌝ }
+    ensures { λ r. ⌜ EveryRelation (sourceFrom (now (bytes .entry)) (now (shape .entry)) o) goal
+        (now (counts .entry)) (now (work .entry)) r (now (counts .exit)) (now (work .exit)) ⌝ }
 {
     outline::count_tables(shape, o.tables, counts);
     needs::needs_of(bytes, shape, o, goal);
-    let mut refuted = [0u8; 16];
-    let case = judgement::is_case(bytes, shape, o, goal, counts, &mut refuted, work);
+    let mut signs = [0u8; 16];
+    let case = judgement::is_case(bytes, shape, o, goal, counts, &mut signs, work);
     needs::set_all(shape);
-    judgement::evaluate(bytes, shape, o, counts, &mut refuted, work);
+    judgement::evaluate(bytes, shape, o, counts, &mut signs, work);
     case
 }
 

@@ -11,15 +11,6 @@ returns c = at-short (omega arith)
 returns-2 : tie.Need-returns-2
 returns-2 c = at-refused (omega arith) (c .if2 .taken)
 
-slice-aggregate-looked : tie.Need-slice-aggregate-looked
-slice-aggregate-looked c = search needs
-
-slice-aggregate-looked-2 : tie.Need-slice-aggregate-looked-2
-slice-aggregate-looked-2 c = search needs
-
-slice-aggregate-looked-3 : tie.Need-slice-aggregate-looked-3
-slice-aggregate-looked-3 c = search needs
-
 looked-requires : tie.Need-looked-requires
 looked-requires c κs = search needs
 
@@ -31,8 +22,7 @@ same-length-2 c = search needs
 
 returns-3 : tie.Need-returns-3
 returns-3 c =
-    at-file (search needs) (search needs) (omega arith) (c .before .before .before .before .before .before .before .before .before .before .before .before .if2 .left)
-    (c .before .before .before .looked .ensures)
+    at-file (search needs) (search needs) (omega arith) (c .before .before .before .before .before .if2 .left) (c .before .before .looked .ensures)
 
 pub look-at-spec : {M : Type 1} → statement M
 look-at-spec =
@@ -40,9 +30,6 @@ look-at-spec =
     (tie.spec
     returns
     returns-2
-    slice-aggregate-looked
-    slice-aggregate-looked-2
-    slice-aggregate-looked-3
     looked-requires
     same-length
     same-length-2

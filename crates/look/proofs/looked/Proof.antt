@@ -8,20 +8,17 @@ use Rattle.look.proofs.looked.Tie as tie
 slice-aggregate-cells-of : tie.Need-slice-aggregate-cells-of
 slice-aggregate-cells-of c = search needs
 
+slice-aggregate-cells-of-2 : tie.Need-slice-aggregate-cells-of-2
+slice-aggregate-cells-of-2 c = search needs
+
 cells-of-requires : tie.Need-cells-of-requires
 cells-of-requires c κs = search needs
 
 cast-if1 : tie.Need-cast-if1
 cast-if1 c = search needs
 
-same-length : tie.Need-same-length
-same-length c = search needs
-
 returns : tie.Need-returns
 returns c = finds-short (c .before .before .cells-of .ensures) (omega arith)
-
-same-length-2 : tie.Need-same-length-2
-same-length-2 c = search needs
 
 returns-2 : tie.Need-returns-2
 returns-2 c = finds-late (c .before .before .before .cells-of .ensures) (omega arith) (omega arith)
@@ -31,6 +28,15 @@ end-of-requires c κs = search needs
 
 slice-aggregate-search : tie.Need-slice-aggregate-search
 slice-aggregate-search c = search needs
+
+slice-aggregate-search-2 : tie.Need-slice-aggregate-search-2
+slice-aggregate-search-2 c = search needs
+
+slice-aggregate-search-3 : tie.Need-slice-aggregate-search-3
+slice-aggregate-search-3 c = search needs
+
+slice-aggregate-search-4 : tie.Need-slice-aggregate-search-4
+slice-aggregate-search-4 c = search needs
 
 search-requires : tie.Need-search-requires
 search-requires c κs = search needs
@@ -44,24 +50,23 @@ show-requires c κs = search needs
 clear-requires : tie.Need-clear-requires
 clear-requires c κs = search needs
 
-same-length-3 : tie.Need-same-length-3
-same-length-3 c = search needs
+same-length : tie.Need-same-length
+same-length c = search needs
 
-same-length-4 : tie.Need-same-length-4
-same-length-4 c = search needs
-
-same-length-5 : tie.Need-same-length-5
-same-length-5 c = search needs
+same-length-2 : tie.Need-same-length-2
+same-length-2 c = search needs
 
 returns-3 : tie.Need-returns-3
 returns-3 c =
     finds-case
     (record {
-      coded = c .before .before .before .before .before .before .before .before .before .before .before .before .before .before .before .before .before .before .before .before .cells-of .ensures;
+      codes = _;
+      cells = _;
+      coded = c .before .before .before .before .before .before .before .before .before .before .before .before .before .before .before .before .before .before .before .before .before .cells-of .ensures;
       room = omega arith;
       from = omega arith;
-      to = c .before .before .before .before .before .before .before .before .before .before .before .before .before .before .before .before .end-of .ensures;
-      search = c .before .before .before .before .before .before .before .before .before .before .before .before .search .ensures;
+      to = c .before .before .before .before .before .before .before .before .before .before .before .before .before .before .before .before .before .end-of .ensures;
+      search = c .before .before .before .before .before .before .before .before .before .before .before .search .ensures;
     })
     (c .before .before .before .before .before .before .before .before .if3 .taken) (c .before .before .before .before .show .ensures) (c .before .clear .ensures)
 
@@ -71,21 +76,20 @@ clear-requires-2 c κs = search needs
 concluded-requires : tie.Need-concluded-requires
 concluded-requires c κs = search needs
 
-same-length-6 : tie.Need-same-length-6
-same-length-6 c = search needs
-
-same-length-7 : tie.Need-same-length-7
-same-length-7 c = search needs
+same-length-3 : tie.Need-same-length-3
+same-length-3 c = search needs
 
 returns-4 : tie.Need-returns-4
 returns-4 c =
     finds-none
     (record {
-      coded = c .before .before .before .before .before .before .before .before .before .before .before .before .before .before .before .before .cells-of .ensures;
+      codes = _;
+      cells = _;
+      coded = c .before .before .before .before .before .before .before .before .before .before .before .before .before .before .before .before .before .cells-of .ensures;
       room = omega arith;
       from = omega arith;
-      to = c .before .before .before .before .before .before .before .before .before .before .before .before .end-of .ensures;
-      search = c .before .before .before .before .before .before .before .before .search .ensures;
+      to = c .before .before .before .before .before .before .before .before .before .before .before .before .before .end-of .ensures;
+      search = c .before .before .before .before .before .before .before .search .ensures;
     })
     (omega arith) (c .before .before .clear2 .ensures) (c .concluded .ensures)
 
@@ -94,24 +98,24 @@ looked-spec =
     tie.close
     (tie.spec
     slice-aggregate-cells-of
+    slice-aggregate-cells-of-2
     cells-of-requires
     cast-if1
-    same-length
     returns
-    same-length-2
     returns-2
     end-of-requires
     slice-aggregate-search
+    slice-aggregate-search-2
+    slice-aggregate-search-3
+    slice-aggregate-search-4
     search-requires
     slice-aggregate-show
     show-requires
     clear-requires
-    same-length-3
-    same-length-4
-    same-length-5
+    same-length
+    same-length-2
     returns-3
     clear-requires-2
     concluded-requires
-    same-length-6
-    same-length-7
+    same-length-3
     returns-4)

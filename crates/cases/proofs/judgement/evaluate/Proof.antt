@@ -4,16 +4,19 @@ use Prim.Native.Nat.{_-_}
 use native.Mathlib.Omega.{arith}
 use lib.ListN.{length}
 use borrow.Author.Needs.{needs}
+use Rattle.catalog.specs.FileIn.{sourceFrom}
+use Rattle.cases.specs.Judgement.{memoryFrom}
 use Rattle.cases.proofs.JudgementLaws.{Turned, turned-none, turned-more, turned-all}
 use Rattle.cases.proofs.judgement.evaluate.Statement.{statement}
 use Rattle.cases.proofs.judgement.evaluate.Tie as tie
 
 abbrev Inv-loop : tie.InvT-loop
-Inv-loop bytes shape o counts₀ refuted₀ work₀ v₀ counts refuted work v =
-    Turned bytes shape o counts₀ refuted₀ work₀ counts refuted work v × (length counts ≡ length counts₀) × (length refuted ≡ length refuted₀) × (length work ≡ length work₀)
+Inv-loop bytes shape o counts₀ signs₀ work₀ v₀ counts signs work v =
+    Turned (sourceFrom bytes shape o) (memoryFrom counts₀ signs₀ work₀) (memoryFrom counts signs work) v × (length counts ≡ length counts₀) × (length signs ≡ length signs₀)
+    × (length work ≡ length work₀)
 
 abbrev μ-loop : tie.MeasureT-loop
-μ-loop bytes shape o counts₀ refuted₀ work₀ v₀ counts refuted work v = o .relations - v
+μ-loop bytes shape o counts₀ signs₀ work₀ v₀ counts signs work v = o .relations - v
 
 loop-holds : tie.Need-loop-holds Inv-loop μ-loop
 loop-holds c = (turned-none, refl, refl, refl)

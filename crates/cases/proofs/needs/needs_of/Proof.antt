@@ -3,12 +3,13 @@ use mathlib.Core.Path.{_∙_}
 use Prim.Native.Nat.{_≤_}
 use native.Mathlib.Omega.{arith}
 use borrow.Author.Needs.{needs}
+use Rattle.catalog.specs.FileIn.{sourceFrom}
 use Rattle.cases.proofs.NeedLaws.{Reached, reached-none, reached-next, needs-all}
 use Rattle.cases.proofs.needs.needs_of.Statement.{statement}
 use Rattle.cases.proofs.needs.needs_of.Tie as tie
 
 abbrev Inv-loop : tie.InvT-loop
-Inv-loop bytes shape₀ o v₀ shape v = (v ≤ o .relations) × Reached bytes o v shape₀ shape
+Inv-loop bytes shape₀ o v₀ shape v = (v ≤ o .relations) × Reached (sourceFrom bytes shape₀ o) v shape
 
 abbrev μ-loop : tie.MeasureT-loop
 μ-loop bytes shape₀ o v₀ shape v = v
@@ -17,7 +18,7 @@ set-flag-requires : tie.Need-set-flag-requires Inv-loop μ-loop
 set-flag-requires c κs = search needs
 
 loop-holds : tie.Need-loop-holds Inv-loop μ-loop
-loop-holds c = (omega arith, reached-none (c .before .before .before .before .before .before .args .o) _)
+loop-holds c = (omega arith, reached-none _)
 
 sub-v : tie.Need-sub-v Inv-loop μ-loop
 sub-v c = search needs
@@ -37,9 +38,9 @@ loop-less c = omega arith
 loop-again : tie.Need-loop-again Inv-loop μ-loop
 loop-again c = (
   omega arith,
-  reached-next (c .before .before .before .before .before .before .before .before .before .before .if1 .taken)
+  reached-next (c .before .before .before .before .before .before .before .before .before .before .before .before .loop .inv .1)
+      (c .before .before .before .before .before .before .before .before .before .before .if1 .taken)
       (c .before .before .before .before .before .before .before .before .before .before .before .before .loop .inv .0)
-      (c .before .before .before .before .before .before .before .before .before .before .before .before .loop .inv .1)
       (c .before .before .before .before .before .before .before .before .frame-of .ensures) (c .before .before .before .before .before .before .need-rows .ensures)
       (c .before .before .need-signs .ensures),
 )

@@ -1,12 +1,13 @@
 -- `look::moves::put_candidate` meets its contract. Assumes nothing.
 use native.Mathlib.Omega.{arith}
 use borrow.Author.Needs.{needs}
+use Rattle.look.specs.Moves.{placesFrom}
 use Rattle.look.proofs.MoveLaws.{Under, under-first, under-next, placed-all}
 use Rattle.look.proofs.moves.put_candidate.Statement.{statement}
 use Rattle.look.proofs.moves.put_candidate.Tie as tie
 
 abbrev Inv-loop : tie.InvT-loop
-Inv-loop shape ends codes cells k work₀ q₀ j₀ work q j = Under shape ends codes cells k k work₀ work j q
+Inv-loop shape ends codes cells k work₀ q₀ j₀ work q j = Under (placesFrom shape ends codes cells) k k work₀ work j q
 
 abbrev μ-loop : tie.MeasureT-loop
 μ-loop shape ends codes cells k work₀ q₀ j₀ work q j = j

@@ -2,16 +2,18 @@
 use Prim.Native.Nat.{_-_}
 use native.Mathlib.Omega.{arith}
 use borrow.Author.Needs.{needs}
+use Rattle.catalog.specs.FileIn.{sourceFrom}
+use Rattle.cases.specs.Judgement.{memoryFrom}
 use Rattle.look.proofs.ScanLaws.{Scanned, scanned-none, scanned-more, scanned-found, scanned-all}
 use Rattle.look.proofs.scan.scan.Statement.{statement}
 use Rattle.look.proofs.scan.scan.Tie as tie
 
 abbrev Inv-loop : tie.InvT-loop
-Inv-loop bytes shape ends o goal codes cells start end counts₀ refuted₀ work₀ k₀ counts refuted work k =
-    Scanned bytes shape ends o goal codes cells start counts₀ refuted₀ work₀ k counts refuted work
+Inv-loop bytes shape ends codes s counts₀ signs₀ work₀ k₀ counts signs work k =
+    Scanned (sourceFrom bytes shape (s .outline)) ends codes s (memoryFrom counts₀ signs₀ work₀) k (memoryFrom counts signs work)
 
 abbrev μ-loop : tie.MeasureT-loop
-μ-loop bytes shape ends o goal codes cells start end counts₀ refuted₀ work₀ k₀ counts refuted work k = end - k
+μ-loop bytes shape ends codes s counts₀ signs₀ work₀ k₀ counts signs work k = s .end - k
 
 loop-holds : tie.Need-loop-holds Inv-loop μ-loop
 loop-holds c = scanned-none
@@ -29,7 +31,7 @@ same-length-3 : tie.Need-same-length-3 Inv-loop μ-loop
 same-length-3 c = search needs
 
 returns : tie.Need-returns Inv-loop μ-loop
-returns c = scanned-found (c .before .before .before .before .before .before .before .before .before .before .before .loop .inv) (c .before .before .before .before .before .before .tested .ensures) (omega arith) (c .if1 .taken)
+returns c = scanned-found (c .before .before .before .before .before .before .before .before .before .before .before .before .loop .inv) (c .before .before .before .before .before .before .tested .ensures) (omega arith) (c .if2 .taken)
 
 move-to-requires : tie.Need-move-to-requires Inv-loop μ-loop
 move-to-requires c κs = search needs
@@ -39,20 +41,20 @@ loop-less c = omega (arith, c .before .before .before .before .before .before .b
 
 loop-again : tie.Need-loop-again Inv-loop μ-loop
 loop-again c =
-    scanned-more (c .before .before .before .before .before .before .before .before .before .before .before .before .before .before .loop .inv)
-    (c .before .before .before .before .before .before .before .before .before .tested .ensures) (c .before .before .before .if1 .left) (c .before .move-to .ensures)
+    scanned-more (c .before .before .before .before .before .before .before .before .before .before .before .before .before .before .before .loop .inv)
+    (c .before .before .before .before .before .before .before .before .before .tested .ensures) (c .before .before .before .if2 .left) (c .before .move-to .ensures)
 
 same-length-4 : tie.Need-same-length-4 Inv-loop μ-loop
-same-length-4 c = c .before .loop .inv .counts-size
+same-length-4 c = c .before .before .loop .inv .counts-size
 
 same-length-5 : tie.Need-same-length-5 Inv-loop μ-loop
-same-length-5 c = c .before .loop .inv .refuted-size
+same-length-5 c = c .before .before .loop .inv .signs-size
 
 same-length-6 : tie.Need-same-length-6 Inv-loop μ-loop
-same-length-6 c = c .before .loop .inv .length-kept
+same-length-6 c = c .before .before .loop .inv .length-kept
 
 returns-2 : tie.Need-returns-2 Inv-loop μ-loop
-returns-2 c = scanned-all (c .before .loop .inv) (omega arith)
+returns-2 c = scanned-all (c .before .before .loop .inv) (omega arith)
 
 pub scan-spec : {M : Type 1} → statement M
 scan-spec =
