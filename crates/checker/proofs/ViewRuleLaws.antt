@@ -40,7 +40,7 @@ use Rattle.catalog.proofs.ArrayLaws.{put-length, put-next, put-outside, outside
 use Rattle.checker.proofs.EntryLaws.{view-entered}
 use Rattle.checker.proofs.FixedLaws.{bound-known}
 use Rattle.checker.proofs.ViewByteLaws.{widths-are}
-use Rattle.catalog.proofs.TableLaws.{all-snoc}
+use Rattle.meaning.proofs.ListSteps.{all-snoc}
 use Rattle.checker.proofs.ViewFields.{partsOf, drop-as, times-snoc, byte-read, from-read, places-read, view-read, GroupedRead, grouped-read}
 
 -- ---- the answer for a frame whose from list is `items` and whose other parts are P
