@@ -19,8 +19,11 @@ const TABLE: u8 = 1;
 
 const VIEW: u8 = 2;
 
-// The first number of candidates that is too large.
-pub const TOO_MANY: u64 = 16777217;
+// The largest number of candidates that a file may have, 2^24.
+pub const CANDIDATE_LIMIT: u64 = 16777216;
+
+// The first number that is too large.
+pub const TOO_MANY: u64 = CANDIDATE_LIMIT + 1;
 
 // The column whose four bytes stand at a place.
 fn domain_at(bytes: &[u8], at: usize) -> Domain
@@ -168,7 +171,7 @@ fn times_table(shape: &[u8], ends: &[i32], t: u8, n: u64) -> u64
     p
 }
 
-// The number of candidates of a file's tables, the first relations; 2^24 + 1 stands for any larger number.
+// The number of candidates of a file's tables, the first relations; TOO_MANY stands for any larger number.
 // Refused: 0 with no cells; the first table counted for each.
 pub fn candidates_of(shape: &[u8], ends: &[i32], tables: u8) -> u64
     ensures { λ n. ⌜ CandidatesOf (now (shape .entry)) (now (ends .entry)) tables n ⌝ }
