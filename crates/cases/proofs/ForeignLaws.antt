@@ -1,7 +1,7 @@
 -- Foreign keys, tested pair by pair, row by row and key by key. Assumes nothing.
 use mathlib.Core.Path.{_≡_, refl, sym, ap, ap₂, _∙_}
 use mathlib.Core.Bool.{Bool, true, false, _&&_}
-use mathlib.Core.List.{List, [], _∷_, _++_, map, append-assoc, append-nil}
+use mathlib.Core.List.{List, [], _∷_, _++_, map, append-assoc}
 use Prim.Native.Nat.{ℕ, suc, _+_, _<_, _≤_}
 use native.Mathlib.Omega.{arith}
 use lib.IntN.{ℤ}
@@ -18,8 +18,10 @@ use Rattle.meaning.specs.Decided.{agrees, foreignKeyHolds}
 use Rattle.meaning.proofs.Elements.{all-at}
 use Rattle.language.specs.Legal.{LegalKey, LegalPair, tableAt}
 use Rattle.language.specs.Written.{keyBytes, pairsBytes}
-use Rattle.catalog.specs.Frames.{frameAt}
+use Rattle.catalog.specs.Frames.{frameAt, keyPartsIn}
+use Rattle.catalog.specs.declared.frames.KeyParts.{KeyParts}
 use Rattle.catalog.proofs.FrameLaws.{pack-cons, frame-here}
+use Rattle.catalog.proofs.WrittenParts.{key-parts}
 use Rattle.store.specs.Layout.{cellIn}
 use Rattle.store.specs.Rows.{rowIn, rowsIn}
 use Rattle.store.proofs.RowLaws.{cell-of-row}
@@ -133,12 +135,6 @@ module _ (bytes : List ℕ) (at count : ℕ) (work : List ℤ) (child i parent :
 
 -- ---- a foreign key
 
--- the fields of a key in its frame
-key-fields : (frame : List ℕ) (k : ForeignKey) → frame ≡ keyBytes k
-    → (getD frame 1 0 ≡ k .child) × (getD frame 2 0 ≡ k .parent) × (getD frame 3 0 ≡ length (k .pairs)) × (drop 4 frame ≡ pairsBytes (k .pairs) ++ [])
-unfolding keyBytes
-key-fields frame k e = rw e (refl, refl, refl, sym (append-nil (pairsBytes (k .pairs))))
-
 -- the first n rows of the child have parents
 pub record ParentsTo (frame counts : List ℕ) (work : List ℤ) (n : ℕ) : Type 0 where
   pub each-row : (F : File) (d : Database) (k : ForeignKey) → frame ≡ keyBytes k → LegalKey (F .tables) k → TablesIn F d counts work
@@ -151,9 +147,8 @@ parents-none frame counts work =
           all-none work (k .child) (length (tableAt (F .tables) (k .child) .columns)) (λ μ. any (agrees (k .pairs) μ) (getD d (k .parent) []));
     }
 
-module _ (frame counts : List ℕ) (work : List ℤ) {child parent count children parents : ℕ}
-    (ec : child ≡ getD frame 1 0) (ep : parent ≡ getD frame 2 0) (en : count ≡ getD frame 3 0)
-    (es : children ≡ getD counts child 0) (eq : parents ≡ getD counts parent 0) where
+module _ (frame counts : List ℕ) (work : List ℤ) {key : KeyParts} {children parents : ℕ} (ek : key ≡ keyPartsIn frame)
+    (es : children ≡ getD counts (key .child) 0) (eq : parents ≡ getD counts (key .parent) 0) where
   module _ (F : File) (d : Database) (k : ForeignKey) (e : frame ≡ keyBytes k) (legal : LegalKey (F .tables) k) (s : TablesIn F d counts work) where
     abbrev p : Row → Bool
     p μ = any (agrees (k .pairs) μ) (getD d (k .parent) [])
@@ -161,28 +156,29 @@ module _ (frame counts : List ℕ) (work : List ℤ) {child parent count childre
     abbrev w : ℕ
     w = length (tableAt (F .tables) (k .child) .columns)
 
-    row-told : {i : ℕ} {r : Bool} → HasParent frame 4 count work child i parent parents r → r ≡ p (rowIn work (k .child) w i)
+    key-is : (key .child ≡ k .child) × (key .parent ≡ k .parent) × (key .count ≡ length (k .pairs)) × (drop (key .pairs) frame ≡ pairsBytes (k .pairs) ++ [])
+    key-is = rw ek (key-parts k frame e)
+
+    row-told : {i : ℕ} {r : Bool} → HasParent frame (key .pairs) (key .count) work (key .child) i (key .parent) parents r → r ≡ p (rowIn work (k .child) w i)
     row-told {i} a =
-        let (fc, fp, fn, fb) = key-fields frame k e in
+        let (fc, fp, fn, fb) = key-is in
         let v = length (tableAt (F .tables) (k .parent) .columns) in
-        let hp : parents ≡ getD counts (k .parent) 0 = eq ∙ ap (λ n. getD counts n 0) (ep ∙ fp) in
-        a .parent-is (k .pairs) [] fb (sym (en ∙ fn)) w v (legal .fields .pairs)
-        ∙ ap₂ (λ (x : ℕ) (R : List Row). any (agrees (k .pairs) (rowIn work x w i)) R) (ec ∙ fc)
-        (ap₂ (λ x n. rowsIn work x v n) (ep ∙ fp) hp ∙ s .table (k .parent) (legal .fields .parent))
+        let hp : parents ≡ getD counts (k .parent) 0 = eq ∙ ap (λ n. getD counts n 0) fp in
+        a .parent-is (k .pairs) [] fb (sym fn) w v (legal .fields .pairs)
+        ∙ ap₂ (λ (x : ℕ) (R : List Row). any (agrees (k .pairs) (rowIn work x w i)) R) fc
+        (ap₂ (λ x n. rowsIn work x v n) fp hp ∙ s .table (k .parent) (legal .fields .parent))
 
     children-are : rowsIn work (k .child) w children ≡ getD d (k .child) []
-    children-are =
-        let (fc, _, _, _) = key-fields frame k e in
-        ap (rowsIn work (k .child) w) (es ∙ ap (λ n. getD counts n 0) (ec ∙ fc)) ∙ s .table (k .child) (legal .fields .child)
+    children-are = ap (rowsIn work (k .child) w) (es ∙ ap (λ n. getD counts n 0) (key-is .0)) ∙ s .table (k .child) (legal .fields .child)
 
-  pub parents-more : {i : ℕ} {r : Bool} → ParentsTo frame counts work i → HasParent frame 4 count work child i parent parents r → r ≡ true
+  pub parents-more : {i : ℕ} {r : Bool} → ParentsTo frame counts work i → HasParent frame (key .pairs) (key .count) work (key .child) i (key .parent) parents r → r ≡ true
       → ParentsTo frame counts work (i + 1)
   parents-more {i} n a t = record {
     each-row = λ F d k e legal s.
         all-step work (k .child) (w F d k e legal s) (p F d k e legal s) i (n .each-row F d k e legal s) (sym (row-told F d k e legal s a) ∙ t);
   }
 
-  pub parents-stop : {i : ℕ} {r : Bool} → i < children → HasParent frame 4 count work child i parent parents r → r ≡ false
+  pub parents-stop : {i : ℕ} {r : Bool} → i < children → HasParent frame (key .pairs) (key .count) work (key .child) i (key .parent) parents r → r ≡ false
       → ForeignHeld frame counts work false
   parents-stop {i} h a f = record {
     holds = λ F d k e legal s.

@@ -18,7 +18,7 @@ use Rattle.catalog.specs.Arrays.{widthAt, maskAt}
 use Rattle.language.specs.Frames.{noTable}
 use Rattle.language.specs.Legal.{tableAt}
 use Rattle.language.specs.Written.{maskOf}
-use Rattle.catalog.proofs.TableLaws.{bit-first, bits-after}
+use Rattle.language.proofs.MaskLaws.{bit-first, bits-after}
 use Rattle.store.specs.Layout.{cellIn}
 use Rattle.store.specs.Rows.{rowIn, rowsIn}
 use Rattle.store.proofs.RowLaws.{row-length, cell-of-row}

@@ -11,7 +11,7 @@ use borrow.Author.Tests.{eqb-true, eqb-false}
 use Rattle.value.proofs.Decides.{by-test, and-cross}
 use Rattle.meaning.specs.Lists.{all, any, pairwise, each}
 use Rattle.meaning.specs.Syntax.{Row}
-use Rattle.catalog.proofs.TableLaws.{all-snoc}
+use Rattle.meaning.proofs.ListSteps.{all-snoc}
 use Rattle.store.specs.Rows.{rowIn, rowsIn}
 use Rattle.store.proofs.RowLaws.{rows-none, rows-more}
 

@@ -1,6 +1,7 @@
 // Whether a database is valid: primary keys and foreign keys. Its values lie in their columns' ranges as a candidate's do.
 use catalog::arrays;
 use catalog::frames;
+use catalog::frames::KeyParts;
 use catalog::outline::Outline;
 ghost use Rattle.catalog.specs.FileIn.{sourceFrom};
 ghost use Rattle.cases.specs.Validity.{Differs, DiffersFromEarlier, KeyHeld, KeysHeld, Agreed, HasParent, ForeignHeld, ForeignsHeld, IsValid};
@@ -72,27 +73,21 @@ pub fn keys_hold(shape: &[u8], counts: &[u8], work: &[i32], tables: u8) -> bool
     true
 }
 
-// Whether a parent row agrees with a child row on all `count` pairs of columns, which stand at `at`.
-fn agrees(
-    bytes: &[u8],
-    at: usize,
-    count: u8,
-    work: &[i32],
-    child: u8,
-    i: u8,
-    parent: u8,
-    j: u8,
-) -> bool
-    ensures { λ r. ⌜ Agreed (now (bytes .entry)) at count (now (work .entry)) child i parent j r ⌝ }
+// Whether row j of the parent agrees with row i of the child on all pairs of columns of the key with this frame.
+fn agrees(frame: &[u8], key: KeyParts, work: &[i32], i: u8, j: u8) -> bool
+    ensures { λ r. ⌜ Agreed (now (frame .entry)) (key .pairs) (key .count) (now (work .entry)) (key .child) i (key .parent) j r ⌝ }
 {
-    let mut next = at;
+    let count = key.count;
+    let child = key.child;
+    let parent = key.parent;
+    let mut next = key.pairs;
     let mut p: u8 = 0;
     while p < count {
-        if bytes.len() <= next {
+        if frame.len() <= next {
             return false;
         }
-        let a = slice::byte_at(bytes, next) as usize;
-        let b = slice::byte_at(bytes, next + 1) as usize;
+        let a = slice::byte_at(frame, next) as usize;
+        let b = slice::byte_at(frame, next + 1) as usize;
         let x = store::cell(work, child as usize, i as usize, a);
         let y = store::cell(work, parent as usize, j as usize, b);
         if !x.same(y) {
@@ -105,21 +100,12 @@ fn agrees(
 }
 
 // Whether one of the parent's rows agrees with row i of the child.
-fn has_parent(
-    bytes: &[u8],
-    at: usize,
-    count: u8,
-    work: &[i32],
-    child: u8,
-    i: u8,
-    parent: u8,
-    rows: u8,
-) -> bool
-    ensures { λ r. ⌜ HasParent (now (bytes .entry)) at count (now (work .entry)) child i parent rows r ⌝ }
+fn has_parent(frame: &[u8], key: KeyParts, work: &[i32], i: u8, rows: u8) -> bool
+    ensures { λ r. ⌜ HasParent (now (frame .entry)) (key .pairs) (key .count) (now (work .entry)) (key .child) i (key .parent) rows r ⌝ }
 {
     let mut j: u8 = 0;
     while j < rows {
-        if agrees(bytes, at, count, work, child, i, parent, j) {
+        if agrees(frame, key, work, i, j) {
             return true;
         }
         j += 1;
@@ -131,14 +117,12 @@ fn has_parent(
 fn foreign_key_holds(frame: &[u8], counts: &[u8], work: &[i32]) -> bool
     ensures { λ r. ⌜ ForeignHeld (now (frame .entry)) (now (counts .entry)) (now (work .entry)) r ⌝ }
 {
-    let child = slice::byte_at(frame, 1);
-    let parent = slice::byte_at(frame, 2);
-    let count = slice::byte_at(frame, 3);
-    let children = slice::byte_at(counts, child as usize);
-    let parents = slice::byte_at(counts, parent as usize);
+    let key = frames::key_parts(frame);
+    let children = slice::byte_at(counts, key.child as usize);
+    let parents = slice::byte_at(counts, key.parent as usize);
     let mut i: u8 = 0;
     while i < children {
-        if !has_parent(frame, 4, count, work, child, i, parent, parents) {
+        if !has_parent(frame, key, work, i, parents) {
             return false;
         }
         i += 1;

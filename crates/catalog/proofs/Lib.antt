@@ -4,4 +4,6 @@ pub mod TableLaws
 pub mod FrameLaws
 pub mod ItemLaws
 pub mod ViewParts
+pub mod WrittenParts
+pub mod PartsRead
 pub mod FileLaws

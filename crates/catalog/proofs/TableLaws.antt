@@ -1,18 +1,17 @@
--- The tables of a file by the arrays: whether some table has a row, the numbers of rows, and the keys. Assumes nothing.
+-- The tables of a file by the arrays: whether some table has a row, and the numbers of rows. Assumes nothing.
 use mathlib.Core.Path.{_≡_, refl, sym, ap, _∙_}
-use mathlib.Core.Bool.{Bool, true, false, _&&_, cond, or-true, and-true, and-assoc}
-use mathlib.Core.List.{List, [], _∷_, _++_, map}
-use Prim.Native.Nat.{ℕ, zero, suc, _+_, _/_, _%_, _≤_, _<_}
+use mathlib.Core.Bool.{true, false, or-true}
+use mathlib.Core.List.{List, [], _∷_, map}
+use Prim.Native.Nat.{ℕ, zero, suc, _+_, _≤_, _<_}
 use native.Mathlib.Omega.{arith}
 use lib.ListN.{length, getD, set, length-set, length-map}
 use lib.Seq.{getD-set-same, getD-set-other}
-use Rattle.meaning.specs.Lists.{isPos, any, all}
+use Rattle.meaning.specs.Lists.{isPos, any}
 use Rattle.meaning.specs.Syntax.{Table, File}
 use Rattle.meaning.specs.Bounds.{Schema, noSchema, schema, schemas, tableSchema, viewSchema}
 use Rattle.meaning.proofs.ListSteps.{map-at}
 use Rattle.meaning.proofs.Stacks.{by-lt, stack-keeps}
 use Rattle.language.specs.Legal.{tableAt}
-use Rattle.language.specs.Written.{maskOf}
 use Rattle.catalog.specs.Arrays.{boundAt}
 use Rattle.catalog.specs.FileIn.{SomeRow, TablesCounted}
 
@@ -75,19 +74,3 @@ counted-more {shape} {counts} {before} {after} {n} {b} c e q = record {
 
 pub counted-all : {shape counts after : List ℕ} {tables n : ℕ} → TablesCounted shape n counts after → tables ≤ n → TablesCounted shape tables counts after
 counted-all c h = record { size = c .size; counted = λ t k l. c .counted t (omega arith) l }
-
--- ---- the key mask, column by column
-
-pub bit-first : (k : Bool) (ks : List Bool) → maskOf (k ∷ ks) % 2 ≡ cond k 1 0
-bit-first true ks = omega arith
-bit-first false ks = omega arith
-
-pub bits-after : (k : Bool) (ks : List Bool) → maskOf (k ∷ ks) / 2 ≡ maskOf ks
-bits-after true ks = omega arith
-bits-after false ks = omega arith
-
--- ---- a test of all elements, the last apart
-
-pub all-snoc : {A : Type 0} (p : A → Bool) (xs : List A) (x : A) → all p (xs ++ (x ∷ [])) ≡ (all p xs && p x)
-all-snoc p [] x = and-true (p x)
-all-snoc p (y ∷ xs) x = ap (_&&_ (p y)) (all-snoc p xs x) ∙ sym (and-assoc (p y) (all p xs) (p x))

@@ -1,17 +1,17 @@
 -- The parts of a view's frame. The one law is `view-parts`. Assumes nothing.
 use mathlib.Core.Path.{_≡_, refl, sym, ap, _∙_}
-use mathlib.Core.List.{List, [], _∷_, _++_, map, append-assoc}
+use mathlib.Core.List.{List, _∷_, _++_, map, append-assoc}
 use Prim.Native.Nat.{ℕ, _+_}
 use native.Mathlib.Omega.{arith}
-use lib.ListN.{length, getD, take, drop}
+use lib.ListN.{length, getD, drop}
 use lib.Seq.{drop-drop, drop-append-seam, take-append-seam}
 use Rattle.value.proofs.Places.{byte-here, two-here}
 use Rattle.meaning.specs.Lists.{joined}
-use Rattle.meaning.specs.Syntax.{Expr, Cond, Place, SetOperation, View}
+use Rattle.meaning.specs.Syntax.{Expr, Cond, Place, View, SetOperation}
 use Rattle.meaning.specs.Bounds.{names}
 use Rattle.language.specs.Prefix.{encodeE, encodeC}
 use Rattle.language.specs.Written.{placesBytes, viewBytes}
-use Rattle.catalog.specs.Frames.{kindOf, fromsIn, namesIn, partsIn, partsAfter}
+use Rattle.catalog.specs.Frames.{kindOf, fromsIn, namesIn, partsIn, partsAfter, setPartsIn}
 
 -- what the counts are, and what stands behind them; of a set view, its operands
 abbrev pub PartsAre : List ℕ → View → Type 0
@@ -19,7 +19,7 @@ PartsAre frame (View.basic fs w es) = (partsIn frame .width ≡ length es) × (d
 PartsAre frame (View.grouped fs w gs h es) =
     (partsIn frame .groups ≡ length gs) × (partsIn frame .width ≡ length es)
     × (drop (partsIn frame .body) frame ≡ encodeC w ++ (placesBytes gs ++ (encodeC h ++ joined (map encodeE es))))
-PartsAre frame (View.set op i j) = (getD frame 1 0 ≡ i) × (getD frame 2 0 ≡ j)
+PartsAre frame (View.set op i j) = (setPartsIn frame .left ≡ i) × (setPartsIn frame .right ≡ j)
 
 -- behind the kind, the from count and the from list
 behind-from : (k : ℕ) (fs l : List ℕ) → drop (length fs + 2) (k ∷ length fs ∷ fs ++ l) ≡ l
@@ -52,7 +52,7 @@ grouped-parts fs w gs h es =
     (b .0, ap (λ i. getD frame i 0) e ∙ b .1, ap (λ i. drop i frame) e′ ∙ b .2 ∙ append-assoc (W ++ P) H S ∙ append-assoc W P (H ++ S))
 
 pub view-parts : (q : View) (frame : List ℕ) → frame ≡ viewBytes q → (getD frame 0 0 ≡ kindOf q) × (namesIn frame ≡ names q) × PartsAre frame q
-unfolding viewBytes fromsIn namesIn
+unfolding viewBytes fromsIn namesIn setPartsIn
 view-parts q frame e = rw e (kind q, named q, parts q)
   where
     kind : (q : View) → getD (viewBytes q) 0 0 ≡ kindOf q

@@ -1,5 +1,5 @@
--- Frames in the packed bytes of a file, each behind its length, and the parts of a view's frame. Assumes nothing: these are definitions, and
--- they compute.
+-- Frames in the packed bytes of a file, each behind its length, and the parts of each kind of frame. Assumes nothing: these are definitions,
+-- and they compute.
 use mathlib.Core.Bool.{Bool, cond}
 use mathlib.Core.List.{List}
 use Prim.Native.Nat.{ℕ, _+_}
@@ -8,7 +8,11 @@ use lib.ListN.{getD, take, drop}
 use Rattle.meaning.specs.Syntax.{View}
 use Rattle.language.specs.Written.{setKind}
 use Rattle.catalog.specs.Arrays.{startAt}
+use Rattle.catalog.specs.declared.frames.TableParts.{TableParts}
+use Rattle.catalog.specs.declared.frames.KeyParts.{KeyParts}
+use Rattle.catalog.specs.declared.frames.SetParts.{SetParts}
 use Rattle.catalog.specs.declared.frames.Parts.{Parts}
+use Rattle.catalog.specs.declared.plan.Goal.{Goal}
 
 -- the frame whose length stands at a place; where the bytes end early, what there is of it
 unfoldable pub frameAt : List ℕ → ℕ → List ℕ
@@ -18,11 +22,26 @@ frameAt bytes at = take (getD bytes at 0) (drop (at + 1) bytes)
 abbrev pub frameIn : List ℕ → List ℕ → ℕ → List ℕ
 frameIn bytes shape r = frameAt bytes (startAt shape r)
 
+-- ---- the parts of a table's frame, of a foreign key's, of the goal's
+
 -- where the columns of a table's frame begin
 abbrev pub columnsStart : ℕ
 columnsStart = 4
 
+unfoldable pub tablePartsIn : List ℕ → TableParts
+tablePartsIn frame = record { rows = getD frame 1 0; width = getD frame 2 0; mask = getD frame 3 0 }
+
+unfoldable pub keyPartsIn : List ℕ → KeyParts
+keyPartsIn frame = record { child = getD frame 1 0; parent = getD frame 2 0; count = getD frame 3 0; pairs = 4 }
+
+unfoldable pub goalIn : List ℕ → Goal
+goalIn frame = record { view = getD frame 1 0; negative = eqb (getD frame 2 0) 1 }
+
 -- ---- the parts of a view's frame
+
+-- the operands of a set view
+unfoldable pub setPartsIn : List ℕ → SetParts
+setPartsIn frame = record { left = getD frame 1 0; right = getD frame 2 0 }
 
 -- the first byte
 abbrev pub kindOf : View → ℕ

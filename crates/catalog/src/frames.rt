@@ -1,16 +1,41 @@
-// Frames in the packed bytes of a file, and the parts of a view's frame.
+// Frames in the packed bytes of a file, and the parts of each kind of frame.
 use super::arrays;
+use super::plan::Goal;
 use slice::byte_at;
 ghost use mathlib.Core.Path.{_≡_};
 ghost use Prim.Native.Nat.{_+_, min};
 ghost use lib.ListN.{length, getD, take, drop};
-ghost use Rattle.catalog.specs.Frames.{frameAt, frameIn, fromsIn, namesIn, partsAfter, partsIn};
+ghost use Rattle.catalog.specs.Frames.{frameAt, frameIn, tablePartsIn, keyPartsIn, fromsIn, namesIn, partsAfter, partsIn, setPartsIn, goalIn};
 
 // Where the columns of a table's frame begin.
 pub const COLUMNS: usize = 4;
 
+// Where the pairs of a foreign key's frame begin.
+const PAIRS: usize = 4;
+
 // The kind of an aggregate view; the kinds of set views are above it.
 const GROUPED: u8 = 4;
+
+// Of a table: how many rows and columns it has, and its key mask.
+pub struct TableParts {
+    pub rows: u8,
+    pub width: u8,
+    pub mask: u8,
+}
+
+// Of a foreign key: its tables, how many pairs of columns it has, and where these begin.
+pub struct KeyParts {
+    pub child: u8,
+    pub parent: u8,
+    pub count: u8,
+    pub pairs: usize,
+}
+
+// Of a set view: its operands.
+pub struct SetParts {
+    pub left: u8,
+    pub right: u8,
+}
 
 // Of a basic or an aggregate view: how many grouping columns and select expressions it has, and where its where condition begins. Behind
 // that stand the grouping columns, having and the select expressions.
@@ -52,6 +77,53 @@ pub fn frame_of<'a>(bytes: &'a [u8], shape: &[u8], r: u8) -> &'a [u8]
     ensures { λ f. ⌜ now f ≡ frameIn (now (bytes .entry)) (now (shape .entry)) r ⌝ }
 {
     frame_at(bytes, arrays::start_of(shape, r))
+}
+
+// The parts of a table's frame.
+// Refused: the number of columns for that of rows; the kind for the key mask.
+pub fn table_parts(frame: &[u8]) -> TableParts
+    ensures { λ r. ⌜ r ≡ tablePartsIn (now (frame .entry)) ⌝ }
+{
+    TableParts {
+        rows: byte_at(frame, 1),
+        width: byte_at(frame, 2),
+        mask: byte_at(frame, 3),
+    }
+}
+
+// The parts of a foreign key's frame.
+// Refused: the parent as child; the pairs one byte too early.
+pub fn key_parts(frame: &[u8]) -> KeyParts
+    ensures { λ r. ⌜ r ≡ keyPartsIn (now (frame .entry)) ⌝ }
+{
+    KeyParts {
+        child: byte_at(frame, 1),
+        parent: byte_at(frame, 2),
+        count: byte_at(frame, 3),
+        pairs: PAIRS,
+    }
+}
+
+// The parts of a set view's frame.
+// Refused: the right operand twice; the left one twice.
+pub fn set_parts(frame: &[u8]) -> SetParts
+    ensures { λ r. ⌜ r ≡ setPartsIn (now (frame .entry)) ⌝ }
+{
+    SetParts {
+        left: byte_at(frame, 1),
+        right: byte_at(frame, 2),
+    }
+}
+
+// The goal of its frame.
+// Refused: the signs swapped; the view by the sign's byte.
+pub fn goal_of(frame: &[u8]) -> Goal
+    ensures { λ r. ⌜ r ≡ goalIn (now (frame .entry)) ⌝ }
+{
+    Goal {
+        view: byte_at(frame, 1),
+        negative: byte_at(frame, 2) == 1,
+    }
 }
 
 // The from list of a basic or an aggregate view's frame.

@@ -1,10 +1,10 @@
 -- The fault of a reader at a place of a frame: a byte, a byte and what follows it, a repetition, the end. Assumes nothing.
-use mathlib.Core.Path.{_≡_, refl, sym, _∙_}
+use mathlib.Core.Path.{_≡_, refl, sym, ap, _∙_}
 use mathlib.Core.Bool.{Bool, true, false}
 use mathlib.Core.List.{List, []}
 use Prim.Native.Nat.{ℕ, _+_, _≤_, _<_}
 use native.Mathlib.Omega.{arith}
-use lib.Dec.{ltb}
+use lib.Dec.{ltb, eqb}
 use lib.ListN.{length, getD, drop, drop-of-length-le}
 use lib.Seq.{drop-drop}
 use borrow.Author.Tests.{ne-eqb, ltb-true, ltb-false}
@@ -22,6 +22,13 @@ first-none n = refl
 pub first-some : (m n : ℕ) → (m ≡ 0 → ⊥) → first m n ≡ m
 unfolding first
 first-some m n h = rw (ne-eqb m 0 h)
+
+pub first-assoc : (a b c : ℕ) → first a (first b c) ≡ first (first a b) c
+unfolding first
+first-assoc a b c = by-test (eqb a 0) (λ t. rw t) (λ t. rw (t, t))
+
+pub first-three : (a b c e : ℕ) → first (first a (first b c)) e ≡ first a (first b (first c e))
+first-three a b c e = sym (first-assoc a (first b c) e) ∙ ap (first a) (sym (first-assoc b c e))
 
 -- ---- a byte
 module _ (frame : List ℕ) (at : ℕ) where

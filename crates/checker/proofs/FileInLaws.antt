@@ -15,7 +15,7 @@ use Rattle.language.specs.Written.{tableBytes, keyBytes, viewBytes, goalBytes, 
 use Rattle.language.proofs.SoundFrames.{regroup}
 use Rattle.catalog.specs.Frames.{frameAt}
 use Rattle.catalog.proofs.FrameLaws.{pack-cons, frame-here}
-use Rattle.checker.specs.Plans.{startFrom, frameOf}
+use Rattle.checker.specs.Plans.{startFrom, frameNumber}
 use Rattle.checker.proofs.WalkLaws.{start-back}
 
 pack-append : (a b : List (List ℕ)) → pack (a ++ b) ≡ pack a ++ pack b
@@ -52,9 +52,9 @@ module _ (F : File) where
 
   -- the frames from a view's on
   view-frames : (v : ℕ) (q : View) → query (length (F .tables)) F v ≡ some q
-      → (more : List (List ℕ)) × (drop (frameOf (length (F .tables)) (length (F .keys)) v) (fileFrames F) ≡ viewBytes q ∷ more)
-      × (frameOf (length (F .tables)) (length (F .keys)) v ≤ length (fileFrames F))
-  unfolding frameOf
+      → (more : List (List ℕ)) × (drop (frameNumber (length (F .tables)) (length (F .keys)) v) (fileFrames F) ≡ viewBytes q ∷ more)
+      × (frameNumber (length (F .tables)) (length (F .keys)) v ≤ length (fileFrames F))
+  unfolding frameNumber
   view-frames v q e =
       let (h, g, l) = query-split (length (F .tables)) F v q e in
       let T = map tableBytes (F .tables) in
@@ -73,10 +73,10 @@ module _ (F : File) where
 
   module _ (bytes tail : List ℕ) (whole : bytes ≡ pack (fileFrames F) ++ tail) where
     pub view-there : (v : ℕ) (q : View) → query (length (F .tables)) F v ≡ some q
-        → let at = startFrom bytes 0 (frameOf (length (F .tables)) (length (F .keys)) v) in (frameAt bytes at ≡ viewBytes q) × (at < length bytes)
+        → let at = startFrom bytes 0 (frameNumber (length (F .tables)) (length (F .keys)) v) in (frameAt bytes at ≡ viewBytes q) × (at < length bytes)
     view-there v q e =
         let (more, d, l) = view-frames v q e in
-        let n = frameOf (length (F .tables)) (length (F .keys)) v in
+        let n = frameNumber (length (F .tables)) (length (F .keys)) v in
         let f = viewBytes q in
         let here : drop (startFrom bytes 0 n) bytes ≡ length f ∷ f ++ (pack more ++ tail) =
         start-back bytes tail n 0 (fileFrames F) whole l ∙ ap (λ (l : List ℕ). l ++ tail) (ap pack d ∙ pack-cons f more)

@@ -1,7 +1,7 @@
 -- The fault of each frame of fixed layout, as the first of the faults of its fields, of its end and of the rules on the whole frame.
 -- Assumes nothing.
 use mathlib.Core.Path.{_≡_, refl, sym, ap, ap₂, _∙_}
-use mathlib.Core.Bool.{Bool, true, false, cond}
+use mathlib.Core.Bool.{Bool, cond}
 use mathlib.Core.List.{List, [], _∷_}
 use Prim.Native.Nat.{ℕ, _+_, _*_, _^_, _≤_, _<_, min}
 use native.Mathlib.Omega.{arith}
@@ -15,10 +15,10 @@ use Rattle.value.specs.Integer.{bytesZ}
 use Rattle.value.proofs.Decides.{by-test, and-parts}
 use Rattle.value.proofs.Places.{first-behind}
 use Rattle.meaning.specs.Syntax.{Pair, SetOperation, View}
-use Rattle.language.specs.Reading.{Read, done, _>>=_, byteIf}
+use Rattle.language.specs.Reading.{done, _>>=_, byteIf, Read}
 use Rattle.meaning.specs.Bounds.{schema}
 use Rattle.catalog.specs.Arrays.{widthAt, boundAt, maskAt}
-use Rattle.language.specs.Draft.{Draft, Item, width, relationCount, schemasOf}
+use Rattle.language.specs.Draft.{Draft, width, relationCount, schemasOf, Item}
 use Rattle.language.specs.Frames.{ending, repeated, columnField, pairField, tableFrame, keyFrame, setFrame, goalFrame, wholeFault, noTable}
 use Rattle.checker.specs.Faults.{faultOf, faultAt, first, under, within, fromUnder}
 use Rattle.checker.specs.Catalogued.{Catalogued, bodyFault}
@@ -127,7 +127,7 @@ module _ {d : Draft} {shape : List ℕ} {ends : List ℤ} (known : Catalogued d 
   bound-known i = sym (ap (λ s. s .bound) (known .schemas i))
 
   set-whole : (op : SetOperation) (i j : ℕ)
-      → wholeFault d (Item.view (View.set op i j)) ≡ setRules op (widthAt shape i) (widthAt shape j) (boundAt shape i) (boundAt shape j)
+      → wholeFault d (Item.view (View.set op i j)) ≡ setRules op shape i j
   unfolding setRules
   set-whole op i j = rw (width-known i, width-known j, bound-known i, bound-known j)
 
@@ -137,7 +137,7 @@ module _ {d : Draft} {shape : List ℕ} {ends : List ℤ} (known : Catalogued d 
         ≡ first (faultAt frame 1 (byteIf 6 (fromUnder (length (d .tables)) (relationCount d))))
         (first (faultAt frame 2 (byteIf 6 (fromUnder (length (d .tables)) (relationCount d))))
         (first (faultAt frame 3 (ending {A = ℕ} 3))
-        (setRules op (widthAt shape i) (widthAt shape j) (boundAt shape i) (boundAt shape j))))
+        (setRules op shape i j)))
     set-law op =
         body-start d frame (setFrame d op)
         ∙ body-byte d frame 1 6 (fromUnder (length (d .tables)) (relationCount d)) _ six

@@ -1,30 +1,34 @@
 -- What a frame does whose turn has come, kind by kind. Assumes nothing.
-use mathlib.Core.Path.{_≡_, refl, sym, ap, ap₂, subst, _∙_}
-use mathlib.Core.Bool.{Bool, true, false, _&&_, cond}
+use mathlib.Core.Path.{_≡_, refl, sym, ap, subst, _∙_}
+use mathlib.Core.Bool.{Bool, true, false, cond}
 use mathlib.Core.List.{List, []}
 use Prim.Native.Nat.{ℕ, _≤_, _<_}
 use native.Mathlib.Omega.{arith}
 use lib.Dec.{ltb, leb, eqb}
 use lib.IntN.{ℤ}
-use lib.ListN.{length, getD, drop}
-use lib.Seq.{getD-drop}
+use lib.ListN.{length, drop}
 use borrow.Author.Tests.{ltb-true, leb-true, eqb-true}
 use Rattle.value.proofs.Decides.{by-test, and-parts}
-use Rattle.meaning.specs.Syntax.{SetOperation, View, Goal}
-use Rattle.language.specs.Reading.{Read, Reader, _>>=_, byteIf}
+use Rattle.meaning.specs.Syntax.{SetOperation, View}
+use Rattle.language.specs.Reading.{Read, Reader}
 use Rattle.meaning.specs.Bounds.{viewSchema, sameWidth, aggregatesFit, bounded, rangesFit}
 use Rattle.language.specs.Draft.{Draft, Item, added, relationCount, schemasOf, isView, stageOf, inOrder, hasRoom}
 use Rattle.language.specs.Written.{setKind}
-use Rattle.language.specs.Frames.{frame, wholeFault, ending, field, setFrame, goalFrame, basicFrame, groupedFrame}
+use Rattle.language.specs.Frames.{frame, wholeFault, setFrame}
 use Rattle.language.specs.Check.{wholeChecked, readChecked}
 use Rattle.checker.specs.Faults.{faultAt, faultOf}
 use Rattle.checker.specs.Catalogued.{Catalogued, checkedFault, bodyFault}
 use Rattle.checker.specs.FixedFaults.{TableFault, KeyFault, SetFault, GoalFault}
 use Rattle.checker.specs.Entries.{TableEntered, SetEntered}
 use Rattle.catalog.specs.Arrays.{putShape}
-use Rattle.checker.specs.ViewFaults.{BasicBytes, GroupedBytes}
+use Rattle.checker.specs.ViewFaults.{ownKind, ownFrame, BytesFault}
 use Rattle.checker.specs.ViewRules.{Rules}
 use Rattle.checker.specs.Standing.{Counts, DraftIn, Turned, withTable, withKey, withView, withGoal}
+use Rattle.catalog.specs.FileIn.{goalOf}
+use Rattle.catalog.specs.Frames.{setPartsIn, goalIn}
+use Rattle.catalog.specs.declared.frames.SetParts.{SetParts}
+use Rattle.catalog.specs.declared.plan.Goal.{Goal as GoalHere}
+use Rattle.catalog.proofs.PartsRead.{SetRead, set-read, goal-read}
 use Rattle.checker.specs.declared.state.Progress.{Progress}
 use Rattle.checker.specs.declared.view_rules.Ruled.{Ruled}
 use Rattle.checker.proofs.EntryLaws.{key-entered, goal-entered}
@@ -32,7 +36,6 @@ use Rattle.language.proofs.FairReaders.{Good, Nil}
 use Rattle.language.proofs.FairFrames.{Well, fair-frame}
 use Rattle.checker.proofs.StandingLaws.{counts-table, counts-key, counts-view, counts-goal}
 use Rattle.checker.proofs.StepLaws.{stepAt, Found, turned-refused}
-use Rattle.checker.proofs.TableLaws.{byte-read, ending-read}
 use Rattle.language.proofs.Turns.{itemStage, Turn, turn, stage-known}
 
 -- ---- an item that is read
@@ -104,101 +107,67 @@ read-well : {P : Item → Type 0} {m : Read Item} → Good Nil P m → faultOf m
 read-well (Good.ok {a} w p) z = (a, ap (Read.ok a) w, p)
 read-well (Good.refusal l) z = absurd (omega arith)
 
-abbrev Bytes : (Draft → Reader Item) → List ℕ → List ℕ → ℕ → ℕ → Type 0
-Bytes reader f shape count n = (d : Draft) (ends : List ℤ) → Catalogued d shape ends → count ≡ relationCount d → n ≡ faultAt f 1 (reader d)
-
 as-view : (i : Item) → 3 ≡ itemStage i → (q : View) × (i ≡ Item.view q)
 as-view (Item.table t) e = absurd (omega arith)
 as-view (Item.key k) e = absurd (omega arith)
 as-view (Item.view q) e = (q, refl)
 as-view (Item.goal g) e = absurd (omega arith)
 
-module _ (k : ℕ) (reader : Draft → Reader Item) (same : (d : Draft) → frame d k ≡ reader d) (three : stageOf k ≡ 3)
-    (f : List ℕ) {s : Progress} {shape : List ℕ} {ends : List ℤ} {n : ℕ} where
-  view-refused : {s′ : Progress} {shape′ : List ℕ} {ends′ : List ℤ} → Bytes reader f shape (s .relations) n → (n ≡ 0 → ⊥) → Turned k f s shape ends shape′ ends′ (stepAt n s′)
+frame-own : (grouped : Bool) (d : Draft) → frame d (ownKind grouped) ≡ ownFrame grouped d
+frame-own true d = refl
+frame-own false d = refl
+
+stage-own : (grouped : Bool) → stageOf (ownKind grouped) ≡ 3
+stage-own true = refl
+stage-own false = refl
+
+module _ (grouped : Bool) {f : List ℕ} {s : Progress} {shape : List ℕ} {ends : List ℤ} {n : ℕ} where
+  pub view-refused : {s′ : Progress} {shape′ : List ℕ} {ends′ : List ℤ} → BytesFault grouped f shape (s .relations) n → (n ≡ 0 → ⊥)
+      → Turned (ownKind grouped) f s shape ends shape′ ends′ (stepAt n s′)
   unfolding bodyFault faultAt
   view-refused b nz = turned-refused n
       (λ d h o r.
-      let e : n ≡ faultOf (frame d k (drop 1 f)) = b d ends (h .catalogued) (h .counts .relations) ∙ ap (λ (m : Reader Item). faultOf (m (drop 1 f))) (sym (same d)) in
-      e ∙ sym (body-refused d (frame d k (drop 1 f)) (λ z. nz (e ∙ z))))
+      let e : n ≡ faultOf (frame d (ownKind grouped) (drop 1 f)) = b .at d ends (h .catalogued) (h .counts .relations) ∙ ap (λ (m : Reader Item). faultOf (m (drop 1 f))) (sym (frame-own grouped d)) in
+      e ∙ sym (body-refused d (frame d (ownKind grouped) (drop 1 f)) (λ z. nz (e ∙ z))))
       nz
 
   -- the view that is read
-  view-read : Bytes reader f shape (s .relations) n → n ≡ 0 → (d : Draft) → DraftIn d s shape ends → inOrder d k ≡ true
-      → (q : View) × (frame d k (drop 1 f) ≡ Read.ok (Item.view q) [])
+  view-read : BytesFault grouped f shape (s .relations) n → n ≡ 0 → (d : Draft) → DraftIn d s shape ends → inOrder d (ownKind grouped) ≡ true
+      → (q : View) × (frame d (ownKind grouped) (drop 1 f) ≡ Read.ok (Item.view q) [])
   unfolding faultAt
   view-read b z d h o =
-      let e : faultOf (frame d k (drop 1 f)) ≡ 0 = ap (λ (m : Reader Item). faultOf (m (drop 1 f))) (same d) ∙ sym (b d ends (h .catalogued) (h .counts .relations)) ∙ z in
-      let (i, reads, p) = read-well (fair-frame d k (stage-known d k o) .good (drop 1 f)) e in
-      let (q, v) = as-view i (sym three ∙ p .0) in
+      let e : faultOf (frame d (ownKind grouped) (drop 1 f)) ≡ 0 = ap (λ (m : Reader Item). faultOf (m (drop 1 f))) (frame-own grouped d) ∙ sym (b .at d ends (h .catalogued) (h .counts .relations)) ∙ z in
+      let (i, reads, p) = read-well (fair-frame d (ownKind grouped) (stage-known d (ownKind grouped) o) .good (drop 1 f)) e in
+      let (q, v) = as-view i (sym (stage-own grouped) ∙ p .0) in
       (q, reads ∙ ap (λ (x : Item). Read.ok x []) v)
 
-  view-done : {s′ : Progress} {shape′ : List ℕ} {ends′ : List ℤ} (a : Ruled) → Bytes reader f shape (s .relations) n → n ≡ 0
-      → Rules reader f (s .relations) shape ends ends′ a → shape′ ≡ putShape shape (s .relations) 2 (a .width) (a .bound) 0 → s′ ≡ withView s
-      → Turned k f s shape ends shape′ ends′ (stepAt (a .fault) s′)
+  pub view-done : {s′ : Progress} {shape′ : List ℕ} {ends′ : List ℤ} (a : Ruled) → BytesFault grouped f shape (s .relations) n → n ≡ 0
+      → Rules (ownFrame grouped) f (s .relations) shape ends ends′ a → shape′ ≡ putShape shape (s .relations) 2 (a .width) (a .bound) 0 → s′ ≡ withView s
+      → Turned (ownKind grouped) f s shape ends shape′ ends′ (stepAt (a .fault) s′)
   unfolding bodyFault
   view-done {s′} {shape′} {ends′} a b z rules p w = record {
     fault = λ d h o r.
         let (q, reads) = view-read b z d h o in
-        let there : reader d (drop 1 f) ≡ Read.ok (Item.view q) [] = ap (λ (m : Reader Item). m (drop 1 f)) (sym (same d)) ∙ reads in
-        let room = item-turn d k (drop 1 f) (Item.view q) o r reads .room in
+        let there : ownFrame grouped d (drop 1 f) ≡ Read.ok (Item.view q) [] = ap (λ (m : Reader Item). m (drop 1 f)) (sym (frame-own grouped d)) ∙ reads in
+        let room = item-turn d (ownKind grouped) (drop 1 f) (Item.view q) o r reads .room in
         rules .fault d q (h .catalogued) (h .counts .relations) (omega (arith, h .counts .relations)) there
         ∙ sym (ap (λ (m : Read Item). checkedFault (readChecked d m)) reads ∙ body-whole d (Item.view q));
-    next = λ d i h o r reads whole. go d i h (sym three ∙ item-stage d k (drop 1 f) i o reads) (item-turn d k (drop 1 f) i o r reads)
-        (ap (λ (m : Reader Item). m (drop 1 f)) (sym (same d)) ∙ reads) whole;
+    next = λ d i h o r reads whole. go d i h (sym (stage-own grouped) ∙ item-stage d (ownKind grouped) (drop 1 f) i o reads) (item-turn d (ownKind grouped) (drop 1 f) i o r reads)
+        (ap (λ (m : Reader Item). m (drop 1 f)) (sym (frame-own grouped d)) ∙ reads) whole;
   }
     where
-      go : (d : Draft) (i : Item) → DraftIn d s shape ends → 3 ≡ itemStage i → Turn d i → reader d (drop 1 f) ≡ Read.ok i [] → wholeFault d i ≡ 0
+      go : (d : Draft) (i : Item) → DraftIn d s shape ends → 3 ≡ itemStage i → Turn d i → ownFrame grouped d (drop 1 f) ≡ Read.ok i [] → wholeFault d i ≡ 0
           → Counts (added d i) s′ × Catalogued (added d i) shape′ ends′
       go d (Item.table t) h e turn reads whole = absurd (omega arith)
-      go d (Item.key k) h e turn reads whole = absurd (omega arith)
+      go d (Item.key x) h e turn reads whole = absurd (omega arith)
       go d (Item.view q) h e turn reads whole =
           (rw w (counts-view (h .counts) q turn), rw p (rules .entered d q (h .catalogued) (h .counts .relations) (omega (arith, h .counts .relations, turn .room)) reads whole))
       go d (Item.goal g) h e turn reads whole = absurd (omega arith)
 
-module _ {f : List ℕ} {s : Progress} {shape : List ℕ} {ends : List ℤ} {n : ℕ} {s′ : Progress} {shape′ : List ℕ} {ends′ : List ℤ} where
-  pub basic-refused : BasicBytes f shape (s .relations) n → (n ≡ 0 → ⊥) → Turned 3 f s shape ends shape′ ends′ (stepAt n s′)
-  basic-refused b nz = view-refused 3 basicFrame (λ d. refl) refl f (b .at) nz
-
-  pub basic-done : (a : Ruled) → BasicBytes f shape (s .relations) n → n ≡ 0 → Rules basicFrame f (s .relations) shape ends ends′ a
-      → shape′ ≡ putShape shape (s .relations) 2 (a .width) (a .bound) 0 → s′ ≡ withView s → Turned 3 f s shape ends shape′ ends′ (stepAt (a .fault) s′)
-  basic-done a b z rules p w = view-done 3 basicFrame (λ d. refl) refl f a (b .at) z rules p w
-
-  pub grouped-refused : GroupedBytes f shape (s .relations) n → (n ≡ 0 → ⊥) → Turned 4 f s shape ends shape′ ends′ (stepAt n s′)
-  grouped-refused b nz = view-refused 4 groupedFrame (λ d. refl) refl f (b .at) nz
-
-  pub grouped-done : (a : Ruled) → GroupedBytes f shape (s .relations) n → n ≡ 0 → Rules groupedFrame f (s .relations) shape ends ends′ a
-      → shape′ ≡ putShape shape (s .relations) 2 (a .width) (a .bound) 0 → s′ ≡ withView s → Turned 4 f s shape ends shape′ ends′ (stepAt (a .fault) s′)
-  grouped-done a b z rules p w = view-done 4 groupedFrame (λ d. refl) refl f a (b .at) z rules p w
-
 -- ---- 05, 06
-
--- the two relations that a set view names
-pub record SetRead (d : Draft) (op : SetOperation) (f : List ℕ) (i : Item) : Type 0 where
-  pub view : i ≡ Item.view (View.set op (getD f 1 0) (getD f 2 0))
-  pub left : getD f 1 0 < relationCount d
-  pub right : getD f 2 0 < relationCount d
 
 before : (d : Draft) (i : ℕ) → isView d i ≡ true → i < relationCount d
 before d i t = ltb-true i (relationCount d) (and-parts (leb (length (d .tables)) i) (ltb i (relationCount d)) t .1)
-
-second-at : (f : List ℕ) → getD (drop 1 (drop 1 f)) 0 0 ≡ getD f 2 0
-second-at f = getD-drop 1 (drop 1 f) 0 0 ∙ getD-drop 1 f 1 0
-
-set-read : (d : Draft) (op : SetOperation) (f : List ℕ) (i : Item) → setFrame d op (drop 1 f) ≡ Read.ok i [] → SetRead d op f i
-set-read d op f i e =
-    let bs = drop 1 f in
-    let (p, e₁) = byte-read 6 (isView d) bs (λ a. byteIf 6 (isView d) >>= λ b. ending (Item.view (View.set op a b))) e in
-    let a = getD bs 0 0 in
-    let (q, e₂) = byte-read 6 (isView d) (drop 1 bs) (λ b. ending (Item.view (View.set op a b))) e₁ in
-    let b = getD (drop 1 bs) 0 0 in
-    let first : a ≡ getD f 1 0 = getD-drop 1 f 0 0 in
-    let second : b ≡ getD f 2 0 = second-at f ∙ refl in
-    record {
-      view = sym (ending-read (Item.view (View.set op a b)) i (drop 1 (drop 1 bs)) e₂) ∙ ap₂ (λ x y. Item.view (View.set op x y)) first second;
-      left = rw first at (before d a p);
-      right = rw second at (before d b q);
-    }
 
 whole-bounded : (d : Draft) (q : View) → wholeFault d (Item.view q) ≡ 0 → viewSchema (schemasOf d) q .bound ≤ 64
 whole-bounded d q e =
@@ -222,44 +191,38 @@ module _ (op : SetOperation) {f : List ℕ} {s : Progress} {shape : List ℕ} {e
   pub set-refused : {s′ : Progress} {shape′ : List ℕ} {ends′ : List ℤ} → SetFault f shape (s .tables) (s .relations) op n → (n ≡ 0 → ⊥) → Turned (setKind op) f s shape ends shape′ ends′ (stepAt n s′)
   set-refused t nz = turned-refused n (set-found t) nz
 
-  pub set-done : {s′ : Progress} {shape′ : List ℕ} {ends′ : List ℤ} {left right : ℕ} → SetFault f shape (s .tables) (s .relations) op n → n ≡ 0 → left ≡ getD f 1 0 → right ≡ getD f 2 0
-      → SetEntered op left right (s .relations) shape ends shape′ ends′ → s′ ≡ withView s → Turned (setKind op) f s shape ends shape′ ends′ (stepAt 0 s′)
-  set-done {s′} {shape′} {ends′} {left} {right} t z l r e w = record {
-    fault = λ d h o p. sym z ∙ set-found t d h o p;
-    next = λ d i h o p reads whole. go d i h (set-read d op f i (ap (λ (m : Reader Item). m (drop 1 f)) (sym (set-frame op d)) ∙ reads))
-        (item-turn d (setKind op) (drop 1 f) i o p reads) whole;
+  pub set-done : {s′ : Progress} {shape′ : List ℕ} {ends′ : List ℤ} {p : SetParts} → SetFault f shape (s .tables) (s .relations) op n → n ≡ 0 → p ≡ setPartsIn f
+      → SetEntered op (p .left) (p .right) (s .relations) shape ends shape′ ends′ → s′ ≡ withView s → Turned (setKind op) f s shape ends shape′ ends′ (stepAt 0 s′)
+  set-done {s′} {shape′} {ends′} {p} t z pe e w = record {
+    fault = λ d h o r. sym z ∙ set-found t d h o r;
+    next = λ d i h o r reads whole. go d i h (set-read d op f i (ap (λ (m : Reader Item). m (drop 1 f)) (sym (set-frame op d)) ∙ reads))
+        (item-turn d (setKind op) (drop 1 f) i o r reads) whole;
   }
     where
+      own : SetEntered op (setPartsIn f .left) (setPartsIn f .right) (s .relations) shape ends shape′ ends′
+      own = subst (λ (x : SetParts). SetEntered op (x .left) (x .right) (s .relations) shape ends shape′ ends′) pe e
+
       go : (d : Draft) (i : Item) → DraftIn d s shape ends → SetRead d op f i → Turn d i → wholeFault d i ≡ 0
           → Counts (added d i) s′ × Catalogued (added d i) shape′ ends′
       go d i h read turn whole =
+          let left = setPartsIn f .left in
+          let right = setPartsIn f .right in
           let q : View = View.set op left right in
-          let is : i ≡ Item.view q = read .view ∙ ap₂ (λ x y. Item.view (View.set op x y)) (sym l) (sym r) in
-          let turn′ : Turn d (Item.view q) = subst (Turn d) is turn in
-          let whole′ : wholeFault d (Item.view q) ≡ 0 = subst (λ (x : Item). wholeFault d x ≡ 0) is whole in
-          subst (λ (x : Item). Counts (added d x) s′ × Catalogued (added d x) shape′ ends′) (sym is) (
+          let turn′ : Turn d (Item.view q) = subst (Turn d) (read .view) turn in
+          let whole′ : wholeFault d (Item.view q) ≡ 0 = subst (λ (x : Item). wholeFault d x ≡ 0) (read .view) whole in
+          subst (λ (x : Item). Counts (added d x) s′ × Catalogued (added d x) shape′ ends′) (sym (read .view)) (
             rw w (counts-view (h .counts) q turn′),
-            e .entered d (h .catalogued) (h .counts .relations) (omega (arith, h .counts .relations, turn′ .room)) (omega (arith, read .left)) (omega (arith, read .right)) (whole-bounded d q whole′),
+            own .entered d (h .catalogued) (h .counts .relations) (omega (arith, h .counts .relations, turn′ .room)) (before d left (read .left)) (before d right (read .right)) (whole-bounded d q whole′),
           )
 
 -- ---- 07
 
-goal-read : (d : Draft) (f : List ℕ) (i : Item) → goalFrame d (drop 1 f) ≡ Read.ok i []
-    → i ≡ Item.goal (record { view = getD f 1 0; negative = eqb (getD f 2 0) 1 })
-goal-read d f i e =
-    let bs = drop 1 f in
-    let goalOf : ℕ → ℕ → Item = λ v s. Item.goal (record { view = v; negative = eqb s 1 }) in
-    let (p, e₁) = byte-read 6 (isView d) bs (λ v. field 0 1 >>= λ s. ending (goalOf v s)) e in
-    let v = getD bs 0 0 in
-    let (q, e₂) = byte-read 5 (λ b. leb 0 b && leb b 1) (drop 1 bs) (λ s. ending (goalOf v s)) e₁ in
-    sym (ending-read (goalOf v (getD (drop 1 bs) 0 0)) i (drop 1 (drop 1 bs)) e₂) ∙ ap₂ goalOf (getD-drop 1 f 0 0) (second-at f)
-
-pub goal-done : {f : List ℕ} {s : Progress} {shape : List ℕ} {ends : List ℤ} {n : ℕ} {s′ : Progress} {view sign : ℕ} → GoalFault f (s .tables) (s .relations) n
-    → view ≡ getD f 1 0 → sign ≡ getD f 2 0 → s′ ≡ withGoal s view sign → Turned 7 f s shape ends shape ends (stepAt n s′)
-goal-done {f} {s} {shape} {ends} {n} {s′} {view} {sign} t v g w = record {
+pub goal-done : {f : List ℕ} {s : Progress} {shape : List ℕ} {ends : List ℤ} {n : ℕ} {s′ : Progress} {g : GoalHere} → GoalFault f (s .tables) (s .relations) n
+    → g ≡ goalIn f → s′ ≡ withGoal s g → Turned 7 f s shape ends shape ends (stepAt n s′)
+goal-done {f} {s} {shape} {ends} {n} {s′} {g} t e w = record {
   fault = λ d h o r. t .at d (h .counts .tables) (h .counts .relations);
   next = λ d i h o r reads whole.
-      let goal : Goal = record { view = getD f 1 0; negative = eqb (getD f 2 0) 1 } in
+      let goal = goalOf (goalIn f) in
       subst (λ (x : Item). Counts (added d x) s′ × Catalogued (added d x) shape ends) (sym (goal-read d f i reads))
-      (rw w (counts-goal (h .counts) goal view sign v (ap (λ x. eqb x 1) g)), goal-entered (h .catalogued) goal);
+      (rw w (counts-goal (h .counts) goal g (ap goalOf e)), goal-entered (h .catalogued) goal);
 }

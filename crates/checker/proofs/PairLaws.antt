@@ -15,7 +15,7 @@ use Rattle.language.specs.Reading.{Read, done, refuse, _>>=_, byteIf, either}
 use Rattle.language.proofs.Readers.{then-ok}
 use Rattle.language.specs.Frames.{repeated, pairField, exactlyKey}
 use Rattle.language.specs.Written.{maskOf}
-use Rattle.catalog.proofs.TableLaws.{bit-first, bits-after}
+use Rattle.language.proofs.MaskLaws.{bit-first, bits-after}
 use Rattle.checker.specs.Faults.{first, under}
 use Rattle.checker.specs.FixedFaults.{parentCount, columnPairing, pairing}
 use Rattle.checker.proofs.FieldLaws.{first-none, first-some}

@@ -1,7 +1,7 @@
 -- A text and the plan of its file.
 --     plan-refused, plan-stopped, plan-without-goal, plan-too-large, plan-done    the ways that a check ends
 -- Assumes nothing.
-use mathlib.Core.Path.{_≡_, refl, sym, ap, ap₂, _∙_}
+use mathlib.Core.Path.{_≡_, refl, sym, ap, ap₂, subst, subst₂, _∙_}
 use mathlib.Core.Bool.{Bool, true, false, cond}
 use mathlib.Core.List.{List, _++_}
 use mathlib.Core.Option.{Option, none, some}
@@ -9,22 +9,22 @@ use Prim.Native.Nat.{ℕ, _≤_, _<_, min}
 use native.Mathlib.Omega.{arith}
 use lib.Dec.{leb}
 use lib.IntN.{ℤ, pos}
-use lib.ListN.{length, take, drop, replicate, take-append-drop}
+use lib.ListN.{length, take, drop, replicate, length-take, take-append-drop}
 use borrow.Author.Tests.{le-leb, lt-leb}
 use Rattle.value.specs.Bag.{All}
 use Rattle.value.proofs.Places.{getD-all}
 use Rattle.value.proofs.Values.{all-map}
-use Rattle.text.specs.Text.{Lines, framesOf}
+use Rattle.text.specs.Text.{framesOf, Lines}
 use Rattle.text.specs.Answers.{pack, Holds, Decoded}
 use Rattle.text.specs.declared.Frames.{Frames}
 use Rattle.text.proofs.Laws.{only-such}
-use Rattle.text.proofs.Callers.{accepted, used-fits, used-length}
+use Rattle.text.proofs.Callers.{accepted, used-fits}
 use Rattle.meaning.specs.Syntax.{Table, ForeignKey, View, Goal}
 use Rattle.meaning.specs.Bounds.{Schema}
 use Rattle.meaning.specs.Candidates.{candidates}
 use Rattle.meaning.proofs.Relations.{query-split}
 use Rattle.language.specs.Draft.{Draft, empty, fileAt, stage}
-use Rattle.language.specs.Check.{Outcome, Reached, candidateLimit, finished, reach, concluded}
+use Rattle.language.specs.Check.{Reached, candidateLimit, finished, reach, concluded, Outcome}
 use Rattle.language.specs.FileOf.{outcomeOf, fileOf}
 use Rattle.language.specs.Written.{fileFrames}
 use Rattle.language.proofs.Readers.{Byte}
@@ -37,8 +37,9 @@ use Rattle.catalog.specs.declared.plan.Plan.{Plan}
 use Rattle.catalog.proofs.FileLaws.{table-schema, tables-in, schema-kept}
 use Rattle.checker.specs.CandidateCount.{tooMany, CandidatesOf}
 use Rattle.checker.specs.Standing.{DraftIn, startProgress}
-use Rattle.checker.specs.Plans.{WalkedTo, Walks, startFrom, frameOf, PlanFrom, Plans}
+use Rattle.checker.specs.Plans.{WalkedTo, Walks, startFrom, frameNumber, PlanFrom, Plans, Concludes, ReadsFrames}
 use Rattle.checker.specs.declared.plan.Walked.{Walked}
+use Rattle.checker.specs.declared.state.Progress.{Progress}
 use Rattle.checker.proofs.EntryLaws.{none-entered}
 use Rattle.checker.proofs.FitLaws.{fits-empty}
 use Rattle.checker.proofs.StandingLaws.{counts-empty}
@@ -146,9 +147,9 @@ module _ (text : List ℕ) (r : Frames) (fs : List (List ℕ)) (e : framesOf tex
           views = λ v q e.
               let (_, _, l) = query-split (length (F .tables)) F v q e in
               let (is, inside) = view-there F (r .bytes) tail whole v q e in
-              let same : startFrom (r .bytes) 0 (frameOf (w .state .tables) (w .state .keys) v) ≡ startFrom (r .bytes) 0 (frameOf (length (F .tables)) (length (F .keys)) v) =
-              ap₂ (λ (m n : ℕ). startFrom (r .bytes) 0 (frameOf m n v)) (s .tables) (s .keys) in
-              let at : startAt (p .shape) v ≡ startFrom (r .bytes) 0 (frameOf (length (F .tables)) (length (F .keys)) v) =
+              let same : startFrom (r .bytes) 0 (frameNumber (w .state .tables) (w .state .keys) v) ≡ startFrom (r .bytes) 0 (frameNumber (length (F .tables)) (length (F .keys)) v) =
+              ap₂ (λ (m n : ℕ). startFrom (r .bytes) 0 (frameNumber m n v)) (s .tables) (s .keys) in
+              let at : startAt (p .shape) v ≡ startFrom (r .bytes) 0 (frameNumber (length (F .tables)) (length (F .keys)) v) =
               P .starts .there v (omega (arith, l, L .relationCount)) (known .shape-size) (omega (arith, same, inside, h .wide)) ∙ same in
               ap (frameAt (r .bytes)) at ∙ is;
           foreign =
@@ -192,34 +193,45 @@ module _ (text : List ℕ) (r : Frames) (fs : List (List ℕ)) (e : framesOf tex
 pub held-start : DraftIn empty startProgress (replicate 128 0) (replicate 256 (pos 0))
 held-start = record { counts = counts-empty; catalogued = none-entered (replicate 128 0) (replicate 256 (pos 0)) refl refl (λ k. getD-all 128 k 0); fits = fits-empty }
 
-module _ (text : List ℕ) (r : Frames) (dec : Decoded (framesOf text) r) where
-  pub used-inside : r .number ≡ 0 → r .used ≤ length (r .bytes)
-  used-inside z = let (fs, e, h) = accepted text r dec z in omega (arith, used-fits h, h .wide)
+module _ (bytes : List ℕ) {s : Progress} (shape : List ℕ) (ends : List ℤ) (p : Plan) where
+  pub concludes-without-goal : (s .stage ≡ 5 → ⊥) → (p .number ≡ 3) × (p .line ≡ 0) → Concludes bytes s shape ends p
+  concludes-without-goal nz a = record {
+    concludes = λ text fs r w e h b t z q. plan-without-goal text r fs e h w shape ends t z p (λ x. nz (ap (λ (y : Progress). y .stage) (sym q) ∙ x)) (a .0) (a .1);
+  }
 
-  pub used-taken : r .number ≡ 0 → r .used ≡ length (take (r .used) (r .bytes))
-  used-taken z = let (fs, e, h) = accepted text r dec z in sym (used-length h)
+  module _ {n : ℕ} (five : s .stage ≡ 5) (c : CandidatesOf shape ends (s .tables) n) where
+    pub concludes-too-large : n ≡ tooMany → (p .number ≡ 10) × (p .line ≡ 0) → Concludes bytes s shape ends p
+    concludes-too-large big a = record {
+      concludes = λ text fs r w e h b t z q.
+          plan-too-large text r fs e h w shape ends t z n p (ap (λ (y : Progress). y .stage) q ∙ five)
+          (subst (λ (y : Progress). CandidatesOf shape ends (y .tables) n) (sym q) c) big (a .0) (a .1);
+    }
 
-  pub used-small : r .number ≡ 0 → length (take (r .used) (r .bytes)) ≤ 5462
-  used-small z = let (fs, e, h) = accepted text r dec z in omega (arith, used-fits h, used-length h)
+    pub concludes-done : (n ≡ tooMany → ⊥) → PlanFrom bytes s shape ends n p → Concludes bytes s shape ends p
+    concludes-done small P = record {
+      concludes = λ text fs r w e h b t z q.
+          plan-done text r fs e h w shape ends t z n p (subst₂ (λ (x : List ℕ) (y : Progress). PlanFrom x y shape ends n p) (sym b) (sym q) P)
+          (ap (λ (y : Progress). y .stage) q ∙ five) (subst (λ (y : Progress). CandidatesOf shape ends (y .tables) n) (sym q) c) small;
+    }
 
-  module _ (z : r .number ≡ 0) (w : Walked) (shape : List ℕ) (ends : List ℤ)
-      (k : Walks (take (r .used) (r .bytes)) (replicate 128 0) (replicate 256 (pos 0)) w shape ends) where
-    walked-to : (fs : List (List ℕ)) → Holds fs r → WalkedTo (reach fs empty 1) w shape ends
-    walked-to fs h = k .walked fs (h .packed) held-start
+-- the bytes in use, of an array of 5,462
+pub used-taken : (bytes : List ℕ) (used : ℕ) → length bytes ≡ 5462 → used ≤ 5462 → used ≡ length (take used bytes)
+used-taken bytes used l h = omega (arith, length-take used bytes)
 
-    pub way-stopped : (p : Plan) → (w .number ≡ 0 → ⊥) → (p .number ≡ w .number) × (p .line ≡ w .line) → Plans (fileOf text) p
-    way-stopped p nz a = let (fs, e, h) = accepted text r dec z in plan-stopped text r fs e h w shape ends (walked-to fs h) p nz (a .0) (a .1)
+module _ (bytes : List ℕ) (used : ℕ) {w : Walked} {shape : List ℕ} {ends : List ℤ} (p : Plan)
+    (k : Walks (take used bytes) (replicate 128 0) (replicate 256 (pos 0)) w shape ends) where
+  walked-to : (fs : List (List ℕ)) (r : Frames) → Holds fs r → r .bytes ≡ bytes → r .used ≡ used → WalkedTo (reach fs empty 1) w shape ends
+  walked-to fs r h b u = k .walked fs (ap₂ take (sym u) (sym b) ∙ h .packed) held-start
 
-    module _ (y : w .number ≡ 0) where
-      pub way-without-goal : (p : Plan) → (w .state .stage ≡ 5 → ⊥) → (p .number ≡ 3) × (p .line ≡ 0) → Plans (fileOf text) p
-      way-without-goal p nz a = let (fs, e, h) = accepted text r dec z in plan-without-goal text r fs e h w shape ends (walked-to fs h) y p nz (a .0) (a .1)
+  pub reads-stopped : (w .number ≡ 0 → ⊥) → (p .number ≡ w .number) × (p .line ≡ w .line) → ReadsFrames bytes used p
+  reads-stopped nz a = record { reads = λ text fs r e h b u. plan-stopped text r fs e h w shape ends (walked-to fs r h b u) p nz (a .0) (a .1) }
 
-      pub way-too-large : (n : ℕ) (p : Plan) → w .state .stage ≡ 5 → CandidatesOf shape ends (w .state .tables) n → n ≡ tooMany
-          → (p .number ≡ 10) × (p .line ≡ 0) → Plans (fileOf text) p
-      way-too-large n p five c big a =
-          let (fs, e, h) = accepted text r dec z in plan-too-large text r fs e h w shape ends (walked-to fs h) y n p five c big (a .0) (a .1)
+  pub reads-whole : w .number ≡ 0 → Concludes bytes (w .state) shape ends p → ReadsFrames bytes used p
+  reads-whole z c = record { reads = λ text fs r e h b u. c .concludes text fs r w e h b (walked-to fs r h b u) z refl }
 
-      pub way-done : (n : ℕ) (p : Plan) → PlanFrom (r .bytes) (w .state) shape ends n p → w .state .stage ≡ 5 → CandidatesOf shape ends (w .state .tables) n
-          → (n ≡ tooMany → ⊥) → Plans (fileOf text) p
-      way-done n p P five c small =
-          let (fs, e, h) = accepted text r dec z in plan-done text r fs e h w shape ends (walked-to fs h) y n p P five c small
+module _ (text : List ℕ) (r : Frames) (dec : Decoded (framesOf text) r) (z : r .number ≡ 0) where
+  pub used-small : r .used ≤ 5462
+  used-small = let (fs, e, h) = accepted text r dec z in used-fits h
+
+  pub plan-read : (p : Plan) → ReadsFrames (r .bytes) (r .used) p → Plans (fileOf text) p
+  plan-read p k = let (fs, e, h) = accepted text r dec z in k .reads text fs r e h refl refl

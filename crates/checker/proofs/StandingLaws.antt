@@ -5,14 +5,16 @@ use mathlib.Core.List.{List, [], _∷_, _++_}
 use mathlib.Core.Option.{Option, none, some}
 use Prim.Native.Nat.{ℕ}
 use native.Mathlib.Omega.{arith}
-use lib.Dec.{eqb, leb}
+use lib.Dec.{leb}
 use borrow.Author.Tests.{leb-true, leb-false}
 use Rattle.value.proofs.Decides.{by-test}
 use Rattle.meaning.specs.Syntax.{Table, ForeignKey, View, Goal}
 use Rattle.meaning.proofs.Stacks.{length-snoc}
-use Rattle.language.specs.Draft.{Draft, Item, empty, added, isNil, stage, stageOf, inOrder, hasRoom}
-use Rattle.language.specs.Check.{Checked, checkFrame, readChecked}
+use Rattle.language.specs.Draft.{Draft, empty, added, isNil, stage, stageOf, inOrder, hasRoom, Item}
+use Rattle.language.specs.Check.{checkFrame, readChecked, Checked}
 use Rattle.language.specs.Frames.{frame}
+use Rattle.catalog.specs.FileIn.{goalOf}
+use Rattle.catalog.specs.declared.plan.Goal.{Goal as GoalHere}
 use Rattle.checker.specs.Standing.{Counts, startProgress, roomFor, turnFault, withTable, withKey, withView, withGoal}
 use Rattle.checker.specs.declared.state.Progress.{Progress}
 use Rattle.language.proofs.Turns.{draft, by-kind, TableTurn, KeyTurn, ViewTurn}
@@ -70,13 +72,13 @@ module _ {d : Draft} {s : Progress} (h : Counts d s) where
     goal = λ g e. no-goal (turn .goal) e;
   }
 
-  pub counts-goal : (g : Goal) (view sign : ℕ) → view ≡ g .view → eqb sign 1 ≡ g .negative → Counts (added d (Item.goal g)) (withGoal s view sign)
-  counts-goal g view sign v n = record {
+  pub counts-goal : (g : Goal) (here : GoalHere) → goalOf here ≡ g → Counts (added d (Item.goal g)) (withGoal s here)
+  counts-goal g here q = record {
     tables = h .tables;
     relations = h .relations;
     keys = h .keys;
     stage-is = refl;
-    goal = λ g′ e. let p : g ≡ g′ = cc in (v ∙ ap (λ (x : Goal). x .view) p, n ∙ ap (λ (x : Goal). x .negative) p);
+    goal = λ g′ e. let p : g ≡ g′ = cc in (ap (λ (x : Goal). x .view) (q ∙ p), ap (λ (x : Goal). x .negative) (q ∙ p));
   }
 
   -- ---- whose turn it is

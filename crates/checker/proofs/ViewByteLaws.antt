@@ -15,7 +15,6 @@ use lib.ListN.{length, getD, drop, take}
 use borrow.Author.Tests.{leb-true, leb-false}
 use Rattle.value.proofs.Decides.{by-test, and-parts}
 use Rattle.value.proofs.Places.{from-byte}
-use Rattle.meaning.specs.Syntax.{Expr}
 use Rattle.language.specs.Reading.{Read, Reader, done, andThen, _>>=_, byteIf, place, openItems, readE, readC}
 use Rattle.meaning.proofs.Elements.{all-given, map-same}
 use Rattle.prefix.specs.Skipped.{skipOf, skipped}
@@ -32,16 +31,11 @@ use Rattle.language.specs.Frames.{repeated, ending, placeField}
 use Rattle.checker.specs.Faults.{faultOf, faultAt, first, under, within}
 use Rattle.checker.specs.Catalogued.{Catalogued}
 use Rattle.checker.specs.ViewFaults.{fromsUnder, selectEnd, conditionSelect, whereGroups}
-use Rattle.checker.proofs.FieldLaws.{first-none, first-some, byte-then, byte-wrong, byte-missing, end-any}
+use Rattle.checker.proofs.FieldLaws.{first-assoc, first-none, first-some, byte-then, byte-wrong, byte-missing, end-any}
 use Rattle.checker.proofs.FixedLaws.{width-known}
+use Rattle.meaning.specs.Syntax.{Expr}
 
 -- ---- the first of several faults
-
-pub first-assoc : (a b c : ℕ) → first a (first b c) ≡ first (first a b) c
-first-assoc zero b c = first-none (first b c) ∙ ap (λ x. first x c) (sym (first-none b))
-first-assoc (suc a) b c =
-    let e = first-some (suc a) b (λ h. omega arith) in
-    first-some (suc a) (first b c) (λ h. omega arith) ∙ sym (ap (λ x. first x c) e ∙ first-some (suc a) c (λ h. omega arith))
 
 first-zero : (a b : ℕ) → first a b ≡ 0 → a ≡ 0
 first-zero zero b h = refl

@@ -1,27 +1,26 @@
--- The fault of the bytes of a basic or an aggregate view is the first of its parts.
---     basic-law, grouped-law       by the definitions
---     basic-bytes, grouped-bytes   as the code has it
+-- The fault of the bytes of a basic or an aggregate view is the first of that of its from list and that of what stands behind it.
 -- Assumes nothing.
-use mathlib.Core.Path.{_≡_, sym, ap, _∙_}
+use mathlib.Core.Path.{_≡_, refl, sym, ap, ap₂, _∙_}
+use mathlib.Core.Bool.{Bool, true, false}
 use mathlib.Core.List.{List, map}
 use Prim.Native.Nat.{ℕ, _+_}
 use native.Mathlib.Omega.{arith}
 use lib.IntN.{ℤ}
 use lib.ListN.{getD}
-use Rattle.meaning.specs.Syntax.{View}
 use Rattle.language.specs.Reading.{Reader, _>>=_, byteIf, openItems, readE, readC}
 use Rattle.catalog.specs.Frames.{fromsIn}
 use Rattle.catalog.specs.Items.{bytesAt, relationsIn, itemsOf, widthsIn}
 use Rattle.catalog.specs.declared.items.Items.{Items}
 use Rattle.catalog.proofs.ItemLaws.{items-back}
 use Rattle.language.specs.Draft.{Draft, Item, relationCount, width}
-use Rattle.language.specs.Frames.{repeated, field, ending, placeField, basicFrame, groupedFrame}
-use Rattle.checker.specs.Faults.{faultAt, first, within}
+use Rattle.language.specs.Frames.{repeated, field, ending, fromList, placeField}
+use Rattle.checker.specs.Faults.{faultAt, first}
 use Rattle.checker.specs.Catalogued.{Catalogued}
-use Rattle.checker.specs.ViewFaults.{fromsUnder, selectEnd, conditionSelect, whereGroups, BasicBytes, GroupedBytes}
+use Rattle.checker.specs.ViewFaults.{fromsUnder, selectEnd, conditionSelect, whereGroups, countedSelect, countedWhere, countedGroups, behindFroms, ownFrame, BytesFault}
 use Rattle.checker.proofs.FieldLaws.{byte-then}
 use Rattle.checker.proofs.BodyLaws.{first-where}
 use Rattle.checker.proofs.ViewByteLaws.{Alike, alike-at, alike-bind, alike-end, froms-then, froms-there, froms-six, widths-are}
+use Rattle.meaning.specs.Syntax.{View}
 
 -- what stands behind the counts, as the definitions read it
 abbrev basicBehind : List ℕ → List ℕ → ℕ → Reader Item
@@ -41,47 +40,45 @@ grouped-alike fs cols g n =
     alike-bind (readC (openItems cols)) (λ w. alike-bind (repeated g (placeField cols)) (λ gs.
     alike-bind (readC (openItems cols)) (λ h. alike-bind (repeated n (readE (openItems cols))) (λ es. alike-end (Item.view (View.grouped fs w gs h es)) es))))
 
+-- the same with the counts, and what stands behind the from list as the definitions read it
+abbrev ownBehind : Bool → List ℕ → List ℕ → Reader Item
+ownBehind true fs cols = field 0 4 >>= λ g. field 1 8 >>= λ n. groupedBehind fs cols g n
+ownBehind false fs cols = field 1 8 >>= λ n. basicBehind fs cols n
+
+behind-alike : (grouped : Bool) (fs cols : List ℕ) → Alike (ownBehind grouped fs cols) (behindFroms grouped cols)
+unfolding behindFroms countedGroups countedWhere countedSelect
+behind-alike true fs cols = alike-bind (field 0 4) (λ g. alike-bind (field 1 8) (λ n. grouped-alike fs cols g n))
+behind-alike false fs cols = alike-bind (field 1 8) (λ n. basic-alike fs cols n)
+
+own-frame : (grouped : Bool) (d : Draft) → ownFrame grouped d ≡ (fromList d >>= λ fs. ownBehind grouped fs (map (width d) fs))
+own-frame true d = refl
+own-frame false d = refl
+
+-- ---- a count and what follows it
+
+pub count-then : {B : Type 0} (frame : List ℕ) (at : ℕ) (p : ℕ → Bool) (k : ℕ → Reader B) {m a b r : ℕ} → m ≡ getD frame at 0
+    → a ≡ faultAt frame at (byteIf 5 p) → b ≡ faultAt frame (at + 1) (k m) → r ≡ first a b → r ≡ faultAt frame at (byteIf 5 p >>= k)
+count-then frame at p k e x y z =
+    z ∙ ap₂ first x (y ∙ ap (λ i. faultAt frame (at + 1) (k i)) e) ∙ sym (byte-then frame at 5 p k (λ q. omega arith))
+
 -- ---- the whole frame: `cols` are the widths of the from items where these have no fault
 
 module _ (frame shape : List ℕ) (count : ℕ) {cols : List ℕ}
     (w : faultAt frame 1 (fromsUnder count) ≡ 0 → cols ≡ widthsIn shape (bytesAt frame 2 (getD frame 1 0))) where
-  pub basic-law : (d : Draft) (ends : List ℤ) → Catalogued d shape ends → count ≡ relationCount d
-      → let at = getD frame 1 0 + 2 in faultAt frame 1 (basicFrame d)
-      ≡ first (faultAt frame 1 (fromsUnder count))
-      (first (faultAt frame at (byteIf 5 (within 1 8))) (faultAt frame (at + 1) (conditionSelect cols (getD frame at 0))))
-  basic-law d ends c e =
+  bytes-law : (grouped : Bool) (d : Draft) (ends : List ℤ) → Catalogued d shape ends → count ≡ relationCount d
+      → let at = getD frame 1 0 + 2 in
+      faultAt frame 1 (ownFrame grouped d) ≡ first (faultAt frame 1 (fromsUnder count)) (faultAt frame at (behindFroms grouped cols))
+  bytes-law grouped d ends c e =
       let at = getD frame 1 0 + 2 in
       let fs = bytesAt frame 2 (getD frame 1 0) in
-      let m = getD frame at 0 in
       let own = map (width d) fs in
-      froms-then frame (relationCount d) (λ fs. field 1 8 >>= basicBehind fs (map (width d) fs))
+      ap (λ (m : Reader Item). faultAt frame 1 m) (own-frame grouped d)
+      ∙ froms-then frame (relationCount d) (λ fs. ownBehind grouped fs (map (width d) fs))
       ∙ rw e (first-where (faultAt frame 1 (fromsUnder (relationCount d))) (λ h.
-      byte-then frame at 5 (within 1 8) (basicBehind fs own) (λ z. omega arith)
-      ∙ ap (first (faultAt frame at (byteIf 5 (within 1 8))))
-      (alike-at frame (at + 1) (basic-alike fs own m)
-      ∙ ap (λ cs. faultAt frame (at + 1) (conditionSelect cs m)) (widths-are c fs ∙ sym (w (rw e h))))))
+      alike-at frame at (behind-alike grouped fs own)
+      ∙ ap (λ cs. faultAt frame at (behindFroms grouped cs)) (widths-are c fs ∙ sym (w (rw e h)))))
 
-  pub grouped-law : (d : Draft) (ends : List ℤ) → Catalogued d shape ends → count ≡ relationCount d
-      → let at = getD frame 1 0 + 2 in faultAt frame 1 (groupedFrame d)
-      ≡ first (faultAt frame 1 (fromsUnder count))
-      (first (faultAt frame at (byteIf 5 (within 0 4)))
-      (first (faultAt frame (at + 1) (byteIf 5 (within 1 8))) (faultAt frame (at + 1 + 1) (whereGroups cols (getD frame at 0) (getD frame (at + 1) 0)))))
-  grouped-law d ends c e =
-      let at = getD frame 1 0 + 2 in
-      let fs = bytesAt frame 2 (getD frame 1 0) in
-      let g = getD frame at 0 in
-      let m = getD frame (at + 1) 0 in
-      let own = map (width d) fs in
-      froms-then frame (relationCount d) (λ fs. field 0 4 >>= λ g. field 1 8 >>= groupedBehind fs (map (width d) fs) g)
-      ∙ rw e (first-where (faultAt frame 1 (fromsUnder (relationCount d))) (λ h.
-      byte-then frame at 5 (within 0 4) (λ g. field 1 8 >>= groupedBehind fs own g) (λ z. omega arith)
-      ∙ ap (first (faultAt frame at (byteIf 5 (within 0 4))))
-      (byte-then frame (at + 1) 5 (within 1 8) (groupedBehind fs own g) (λ z. omega arith)
-      ∙ ap (first (faultAt frame (at + 1) (byteIf 5 (within 1 8))))
-      (alike-at frame (at + 1 + 1) (grouped-alike fs own g m)
-      ∙ ap (λ cs. faultAt frame (at + 1 + 1) (whereGroups cs g m)) (widths-are c fs ∙ sym (w (rw e h)))))))
-
--- ---- the answers
+-- ---- the answer
 
 module _ (frame shape : List ℕ) (count : ℕ) {items : Items} {n v : ℕ} (e : items ≡ itemsOf (fromsIn frame)) (f : n ≡ getD frame 1 0) (g : v ≡ n) where
   abbrev cols : List ℕ
@@ -90,12 +87,9 @@ module _ (frame shape : List ℕ) (count : ℕ) {items : Items} {n v : ℕ} (e :
   opened : faultAt frame 1 (fromsUnder count) ≡ 0 → cols ≡ widthsIn shape (bytesAt frame 2 (getD frame 1 0))
   opened h = ap (widthsIn shape) (ap relationsIn e ∙ items-back (fromsIn frame) (froms-six frame count h) ∙ sym (froms-there frame count h))
 
-  module _ {a b m t s r : ℕ} (p : a ≡ faultAt frame 1 (fromsUnder count)) where
-    pub basic-bytes : m ≡ getD frame (v + 2) 0 → b ≡ faultAt frame (v + 2) (byteIf 5 (within 1 8))
-        → t ≡ faultAt frame (v + 2 + 1) (conditionSelect cols m) → s ≡ first b t → r ≡ first a s → BasicBytes frame shape count r
-    basic-bytes x y z u w = record { at = λ d ends c q. let l = basic-law frame shape count opened d ends c q in cc }
-
-    pub grouped-bytes : {h j y : ℕ} → h ≡ getD frame (v + 2) 0 → m ≡ getD frame (v + 2 + 1) 0 → b ≡ faultAt frame (v + 2) (byteIf 5 (within 0 4))
-        → j ≡ faultAt frame (v + 2 + 1) (byteIf 5 (within 1 8)) → t ≡ faultAt frame (v + 2 + 1 + 1) (whereGroups cols h m)
-        → y ≡ first j t → s ≡ first b y → r ≡ first a s → GroupedBytes frame shape count r
-    grouped-bytes x1 x2 x3 x4 x5 x6 x7 x8 = record { at = λ d ends c q. let l = grouped-law frame shape count opened d ends c q in cc }
+  pub bytes-fault : (grouped : Bool) {a b r : ℕ} → a ≡ faultAt frame 1 (fromsUnder count) → b ≡ faultAt frame (v + 2) (behindFroms grouped cols)
+      → r ≡ first a b → BytesFault grouped frame shape count r
+  bytes-fault grouped p q z = record {
+    at = λ d ends c y.
+        z ∙ ap₂ first p (q ∙ ap (λ i. faultAt frame (i + 2) (behindFroms grouped cols)) (g ∙ f)) ∙ sym (bytes-law frame shape count opened grouped d ends c y);
+  }

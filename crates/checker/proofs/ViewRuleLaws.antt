@@ -18,29 +18,30 @@ use Rattle.range.specs.declared.Ranged.{Ranged}
 use Rattle.range.specs.declared.Ranged.the-variants.{Within, Beyond}
 use Rattle.meaning.specs.Lists.{all}
 use Rattle.meaning.specs.Syntax.{Expr, Cond, Place, View}
-use Rattle.language.specs.Reading.{Read, openItems, readE, readC}
+use Rattle.language.specs.Reading.{openItems, readE, readC, Read}
 use Rattle.meaning.specs.Bounds.{Schema, schema, viewSchema, itemRanges, productBound, OpenRanges, openRanges, range, withinE, withinC, allowedE, allowedC, inWhere, inBasic, inGrouped}
 use Rattle.meaning.proofs.Elements.{all-given, map-same}
 use Rattle.language.proofs.Readers.{then-ok}
 use Rattle.catalog.specs.Arrays.{widthAt, boundAt, rangesFrom, rangesIn, itemsIn, putRange, putShape, Outside}
 use Rattle.catalog.specs.Frames.{fromsIn, partsAfter}
 use Rattle.catalog.specs.declared.frames.Parts.{Parts}
-use Rattle.catalog.specs.Items.{widthsIn, openIn, openRangesIn}
+use Rattle.catalog.specs.Items.{relationsIn, widthsIn, openIn, openRangesIn}
 use Rattle.bounds.specs.Walk.{placesFrom, permittedOf, rangedE, isWithin, SizesE, TestsC}
 use Rattle.bounds.specs.declared.Rule.{Rule}
 use Rattle.bounds.specs.declared.Sized.{Sized}
 use Rattle.bounds.specs.declared.Tested.{Tested}
 use Rattle.bounds.proofs.Parts.{ranged-is}
-use Rattle.language.specs.Draft.{Draft, Item, added, relationCount, schemasOf, width}
+use Rattle.language.specs.Draft.{Draft, added, relationCount, schemasOf, width, Item}
 use Rattle.language.specs.Frames.{repeated, field, fromList, placeField, basicFrame, groupedFrame, wholeFault}
 use Rattle.checker.specs.Catalogued.{Catalogued}
-use Rattle.checker.specs.ViewRules.{factorAt, productOf, ProductBound, putRanged, viewFault, plainRule, EntryRoom, Selects, RuledAs, Tail, Rules}
+use Rattle.checker.specs.ViewRules.{factorAt, productOf, ProductBound, putRanged, viewFault, plainRule, EntryRoom, Selects, RuledAs, Tail, OpeningOf, Rules}
 use Rattle.checker.specs.declared.view_rules.Ruled.{Ruled}
+use Rattle.checker.specs.declared.view_rules.Opening.{Opening}
 use Rattle.catalog.proofs.ArrayLaws.{put-length, put-next, put-outside, outside-same, outside-more, outside-ranges}
 use Rattle.checker.proofs.EntryLaws.{view-entered}
 use Rattle.checker.proofs.FixedLaws.{bound-known}
 use Rattle.checker.proofs.ViewByteLaws.{widths-are}
-use Rattle.catalog.proofs.TableLaws.{all-snoc}
+use Rattle.meaning.proofs.ListSteps.{all-snoc}
 use Rattle.checker.proofs.ViewFields.{partsOf, drop-as, times-snoc, byte-read, from-read, places-read, view-read, GroupedRead, grouped-read}
 
 -- ---- the answer for a frame whose from list is `items` and whose other parts are P
@@ -329,25 +330,27 @@ module _ (d : Draft) {shape : List ℕ} {ends : List ℤ} (c : Catalogued d shap
 
 -- ---- the whole frame
 
--- from the from list, the other parts, the row bound and the answer for the where
-module _ (frame : List ℕ) (r : ℕ) (shape : List ℕ) (ends ends′ : List ℤ) (a : Ruled) (items : List ℕ) (P : Parts) (bound : ℕ) (w : Tested)
-    (list : length (fromsIn frame) ≤ 6 → items ≡ fromsIn frame) (product : ProductBound shape items bound)
-    (t : TestsC frame (P .body) items shape ends (plainRule bound true) w) where
-  pub basic-rules : P ≡ partsOf false frame → (rule : Rule) → rule ≡ plainRule bound false → Tail frame w (P .width) items shape ends r rule ends′ a → Rules basicFrame frame r shape ends ends′ a
-  basic-rules pe rule re s =
-      let B = basic-ruled frame P items shape ends r ends′ a bound w product t rule re s in
+-- from what the frame begins with and the answer for the rest
+module _ (frame : List ℕ) (r : ℕ) (shape : List ℕ) (ends ends′ : List ℤ) (a : Ruled) (o : Opening) where
+  abbrev froms : List ℕ
+  froms = relationsIn (o .items)
+
+  pub basic-rules : OpeningOf false frame shape ends o → (rule : Rule) → rule ≡ plainRule (o .bound) false
+      → Tail frame (o .filter) (o .parts .width) froms shape ends r rule ends′ a → Rules basicFrame frame r shape ends ends′ a
+  basic-rules O rule re s =
+      let B = basic-ruled frame (o .parts) froms shape ends r ends′ a (o .bound) (o .filter) (O .product) (O .tested) rule re s in
       record {
-        fault = λ d q c e l h. basic-ruling d c r e l ends′ a q frame P items list pe B h .fault;
-        entered = λ d q c e l h. basic-ruling d c r e l ends′ a q frame P items list pe B h .entered;
+        fault = λ d q c e l h. basic-ruling d c r e l ends′ a q frame (o .parts) froms (O .froms) (O .parts-are) B h .fault;
+        entered = λ d q c e l h. basic-ruling d c r e l ends′ a q frame (o .parts) froms (O .froms) (O .parts-are) B h .entered;
       }
 
-  pub grouped-rules : P ≡ partsOf true frame → (places : ℕ) (h′ head : Tested)
-      → head ≡ record { next = h′ .next; allowed = w .allowed && h′ .allowed; within = w .within && h′ .within } → drop places frame ≡ drop (w .next) frame
-      → TestsC frame (places + 2 * P .groups) items shape ends (groupedRule bound places (P .groups)) h′
-      → Tail frame head (P .width) items shape ends r (groupedRule bound places (P .groups)) ends′ a → Rules groupedFrame frame r shape ends ends′ a
-  grouped-rules pe places h′ head he at u s =
-      let B = grouped-ruled frame P items shape ends r ends′ a bound w product t places h′ head he at u s in
+  pub grouped-rules : OpeningOf true frame shape ends o → (places : ℕ) (h′ head : Tested)
+      → head ≡ record { next = h′ .next; allowed = o .filter .allowed && h′ .allowed; within = o .filter .within && h′ .within } → drop places frame ≡ drop (o .filter .next) frame
+      → TestsC frame (places + 2 * o .parts .groups) froms shape ends (groupedRule (o .bound) places (o .parts .groups)) h′
+      → Tail frame head (o .parts .width) froms shape ends r (groupedRule (o .bound) places (o .parts .groups)) ends′ a → Rules groupedFrame frame r shape ends ends′ a
+  grouped-rules O places h′ head he at u s =
+      let B = grouped-ruled frame (o .parts) froms shape ends r ends′ a (o .bound) (o .filter) (O .product) (O .tested) places h′ head he at u s in
       record {
-        fault = λ d q c e l h. grouped-ruling d c r e l ends′ a q frame P items list pe B (grouped-read d frame q h) .fault;
-        entered = λ d q c e l h. grouped-ruling d c r e l ends′ a q frame P items list pe B (grouped-read d frame q h) .entered;
+        fault = λ d q c e l h. grouped-ruling d c r e l ends′ a q frame (o .parts) froms (O .froms) (O .parts-are) B (grouped-read d frame q h) .fault;
+        entered = λ d q c e l h. grouped-ruling d c r e l ends′ a q frame (o .parts) froms (O .froms) (O .parts-are) B (grouped-read d frame q h) .entered;
       }

@@ -20,7 +20,7 @@ use Rattle.catalog.proofs.ArrayLaws.{first-same, first-more, start-kept, start-
 use Rattle.catalog.proofs.FrameLaws.{pack-cons, frame-here}
 use Rattle.checker.specs.Catalogued.{checkedFault}
 use Rattle.checker.specs.Standing.{DraftIn, Stepped, startProgress}
-use Rattle.checker.specs.Plans.{WalkedTo, startFrom, frameOf, StartsPut}
+use Rattle.checker.specs.Plans.{WalkedTo, startFrom, frameNumber, StartsPut}
 use Rattle.checker.specs.declared.state.Progress.{Progress}
 use Rattle.checker.specs.declared.step.Step.{Step}
 use Rattle.language.proofs.Steps.{Looked, looked}
@@ -134,13 +134,13 @@ pub starts-none : (packed : List ℕ) (tables keys : ℕ) (shape : List ℕ) →
 starts-none packed tables keys shape = record { kept = first-same 4 shape; there = λ r h. absurd (omega arith) }
 
 pub starts-more : (packed : List ℕ) (tables keys n : ℕ) (shape shape₁ shape₂ : List ℕ) (x y : ℕ) → n < 16 → StartsPut packed tables keys n shape shape₁
-    → y ≡ frameOf tables keys n → x ≡ startFrom packed 0 y → shape₂ ≡ putStart shape₁ n x → StartsPut packed tables keys (n + 1) shape shape₂
+    → y ≡ frameNumber tables keys n → x ≡ startFrom packed 0 y → shape₂ ≡ putStart shape₁ n x → StartsPut packed tables keys (n + 1) shape shape₂
 starts-more packed tables keys n shape shape₁ shape₂ x y l s f e p = record {
   kept = rw p (first-more (s .kept) (start-kept shape₁ n x));
   there = λ r h z b. by-test (eqb r n)
       (λ t. let q : r ≡ n = eqb-true r n t in
-      let here : x ≡ startFrom packed 0 (frameOf tables keys n) = e ∙ ap (startFrom packed 0) f in
-      let small : startFrom packed 0 (frameOf tables keys n) < 65536 = rw q at b in
+      let here : x ≡ startFrom packed 0 (frameNumber tables keys n) = e ∙ ap (startFrom packed 0) f in
+      let small : startFrom packed 0 (frameNumber tables keys n) < 65536 = rw q at b in
       rw (q, p) (start-there shape₁ n x (omega (arith, z, s .kept .size)) (omega (arith, here, small)) ∙ here))
       (λ t. rw p (start-other shape₁ n x r (eqb-false r n t)) ∙ s .there r (omega (arith, eqb-false r n t)) z b);
 }

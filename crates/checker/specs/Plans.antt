@@ -6,9 +6,12 @@ use Prim.Native.Nat.{ℕ, zero, suc, _+_, _<_}
 use lib.Dec.{ltb}
 use lib.IntN.{ℤ}
 use lib.ListN.{length, getD}
-use Rattle.text.specs.Answers.{pack}
+use Rattle.text.specs.Text.{Lines, framesOf}
+use Rattle.text.specs.Answers.{pack, Holds}
+use Rattle.text.specs.declared.Frames.{Frames}
 use Rattle.language.specs.Draft.{empty}
 use Rattle.language.specs.Check.{Outcome, Reached, reach}
+use Rattle.language.specs.FileOf.{fileOf}
 use Rattle.catalog.specs.Arrays.{startAt, FirstKept}
 use Rattle.catalog.specs.FileIn.{PlanOf, SomeRow}
 use Rattle.catalog.specs.declared.outline.Outline.{Outline}
@@ -35,13 +38,13 @@ startFrom packed at zero = at
 startFrom packed at (suc n) = startFrom packed (at + getD packed at 0 + 1) n
 
 -- the number of relation r's frame: tables come before the foreign keys and views behind them
-unfoldable pub frameOf : ℕ → ℕ → ℕ → ℕ
-frameOf tables keys r = cond (ltb r tables) r (r + keys)
+unfoldable pub frameNumber : ℕ → ℕ → ℕ → ℕ
+frameNumber tables keys r = cond (ltb r tables) r (r + keys)
 
 -- the places of the first n relations' frames, where these are below 65,536; the four bytes before them stay
 pub record StartsPut (packed : List ℕ) (tables keys n : ℕ) (shape shape′ : List ℕ) : Type 0 where
   pub kept : FirstKept 4 shape shape′
-  pub there : (r : ℕ) → r < n → length shape ≡ 128 → startFrom packed 0 (frameOf tables keys r) < 65536 → startAt shape′ r ≡ startFrom packed 0 (frameOf tables keys r)
+  pub there : (r : ℕ) → r < n → length shape ≡ 128 → startFrom packed 0 (frameNumber tables keys r) < 65536 → startAt shape′ r ≡ startFrom packed 0 (frameNumber tables keys r)
 
 -- ---- the plan
 
@@ -66,3 +69,13 @@ pub record PlanFrom (bytes : List ℕ) (s : Progress) (shape : List ℕ) (ends :
 abbrev pub Plans : Outcome → Plan → Type 0
 Plans (Outcome.refused n line) p = (p .number ≡ n) × (p .line ≡ line) × (n ≡ 0 → ⊥)
 Plans (Outcome.accepted F) p = PlanOf F p
+
+-- the plan of a text whose frames, packed in these bytes, were all walked without fault
+pub record Concludes (bytes : List ℕ) (s : Progress) (shape : List ℕ) (ends : List ℤ) (p : Plan) : Type 0 where
+  pub concludes : (text : List ℕ) (fs : List (List ℕ)) (r : Frames) (w : Walked) → framesOf text ≡ Lines.frames fs → Holds fs r → r .bytes ≡ bytes
+      → WalkedTo (reach fs empty 1) w shape ends → w .number ≡ 0 → w .state ≡ s → Plans (fileOf text) p
+
+-- the plan of a text whose frames are packed in the first `used` of these bytes
+pub record ReadsFrames (bytes : List ℕ) (used : ℕ) (p : Plan) : Type 0 where
+  pub reads : (text : List ℕ) (fs : List (List ℕ)) (r : Frames) → framesOf text ≡ Lines.frames fs → Holds fs r → r .bytes ≡ bytes → r .used ≡ used
+      → Plans (fileOf text) p

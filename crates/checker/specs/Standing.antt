@@ -12,6 +12,7 @@ use Rattle.language.specs.Reading.{Read}
 use Rattle.language.specs.Draft.{Draft, Item, added, relationCount, stage, stageOf, inOrder, hasRoom}
 use Rattle.language.specs.Frames.{frame, wholeFault}
 use Rattle.language.specs.Check.{Checked, checkFrame}
+use Rattle.catalog.specs.declared.plan.Goal.{Goal as GoalHere}
 use Rattle.checker.specs.Catalogued.{Catalogued, checkedFault, bodyFault}
 use Rattle.checker.specs.FixedFaults.{KeysFit}
 use Rattle.checker.specs.declared.state.Progress.{Progress}
@@ -51,8 +52,8 @@ withKey s = record { tables = s .tables; relations = s .relations; keys = more (
 abbrev pub withView : Progress → Progress
 withView s = record { tables = s .tables; relations = more (s .relations); keys = s .keys; stage = 3; goal = s .goal; negative = s .negative }
 
-abbrev pub withGoal : Progress → ℕ → ℕ → Progress
-withGoal s view sign = record { tables = s .tables; relations = s .relations; keys = s .keys; stage = 5; goal = view; negative = eqb sign 1 }
+abbrev pub withGoal : Progress → GoalHere → Progress
+withGoal s g = record { tables = s .tables; relations = s .relations; keys = s .keys; stage = 5; goal = g .view; negative = g .negative }
 
 -- ---- a frame
 

@@ -1,11 +1,12 @@
 -- What the pass over the bytes of a basic or an aggregate view finds. Assumes nothing: these are definitions.
 use mathlib.Core.Path.{_≡_}
+use mathlib.Core.Bool.{Bool, true, false}
 use mathlib.Core.List.{List}
 use Prim.Native.Nat.{ℕ}
 use lib.IntN.{ℤ}
 use Rattle.meaning.specs.Syntax.{Expr}
 use Rattle.language.specs.Reading.{Reader, _>>=_, byteIf, openItems, readE, readC}
-use Rattle.language.specs.Draft.{Draft, relationCount}
+use Rattle.language.specs.Draft.{Draft, Item, relationCount}
 use Rattle.language.specs.Frames.{repeated, field, ending, placeField, basicFrame, groupedFrame}
 use Rattle.checker.specs.Faults.{faultAt, under}
 use Rattle.checker.specs.Catalogued.{Catalogued}
@@ -28,10 +29,32 @@ conditionSelect cols m = readC (openItems cols) >>= λ w. selectEnd cols m
 unfoldable pub whereGroups : List ℕ → ℕ → ℕ → Reader (List Expr)
 whereGroups cols g m = readC (openItems cols) >>= λ w. repeated g (placeField cols) >>= λ gs. conditionSelect cols m
 
--- ---- the answers: the first fault of a frame's bytes, whatever the relations before it are
+-- the select count before these
+unfoldable pub countedSelect : List ℕ → Reader (List Expr)
+countedSelect cols = field 1 8 >>= λ m. conditionSelect cols m
 
-pub record BasicBytes (frame shape : List ℕ) (count r : ℕ) : Type 0 where
-  pub at : (d : Draft) (ends : List ℤ) → Catalogued d shape ends → count ≡ relationCount d → r ≡ faultAt frame 1 (basicFrame d)
+unfoldable pub countedWhere : List ℕ → ℕ → Reader (List Expr)
+countedWhere cols g = field 1 8 >>= λ m. whereGroups cols g m
 
-pub record GroupedBytes (frame shape : List ℕ) (count r : ℕ) : Type 0 where
-  pub at : (d : Draft) (ends : List ℤ) → Catalogued d shape ends → count ≡ relationCount d → r ≡ faultAt frame 1 (groupedFrame d)
+-- and an aggregate view's grouping count before it
+unfoldable pub countedGroups : List ℕ → Reader (List Expr)
+countedGroups cols = field 0 4 >>= λ g. countedWhere cols g
+
+-- what stands behind the from list of an aggregate or of a basic view
+unfoldable pub behindFroms : Bool → List ℕ → Reader (List Expr)
+behindFroms true cols = countedGroups cols
+behindFroms false cols = countedSelect cols
+
+-- ---- an aggregate or a basic view
+
+abbrev pub ownKind : Bool → ℕ
+ownKind true = 0x04
+ownKind false = 0x03
+
+abbrev pub ownFrame : Bool → Draft → Reader Item
+ownFrame true d = groupedFrame d
+ownFrame false d = basicFrame d
+
+-- the first fault of a frame's bytes, whatever the relations before it are
+pub record BytesFault (grouped : Bool) (frame shape : List ℕ) (count r : ℕ) : Type 0 where
+  pub at : (d : Draft) (ends : List ℤ) → Catalogued d shape ends → count ≡ relationCount d → r ≡ faultAt frame 1 (ownFrame grouped d)

@@ -15,14 +15,16 @@ use Rattle.meaning.specs.Syntax.{Expr, View}
 use Rattle.language.specs.Reading.{Read, Reader, readE}
 use Rattle.meaning.specs.Bounds.{OpenRanges, range, withinE, allowedE}
 use Rattle.catalog.specs.Arrays.{widthAt, boundAt, rangesFrom, putRange, putShape, Outside}
-use Rattle.catalog.specs.Items.{openIn, openRangesIn}
-use Rattle.bounds.specs.Walk.{permittedOf}
+use Rattle.catalog.specs.Frames.{fromsIn, partsAfter}
+use Rattle.catalog.specs.Items.{relationsIn, openIn, openRangesIn}
+use Rattle.bounds.specs.Walk.{permittedOf, TestsC}
 use Rattle.bounds.specs.declared.Rule.{Rule}
 use Rattle.bounds.specs.declared.Tested.{Tested}
 use Rattle.language.specs.Draft.{Draft, Item, added, relationCount}
 use Rattle.language.specs.Frames.{repeated, wholeFault}
 use Rattle.checker.specs.Catalogued.{Catalogued}
 use Rattle.checker.specs.declared.view_rules.Ruled.{Ruled}
+use Rattle.checker.specs.declared.view_rules.Opening.{Opening}
 
 -- ---- the parts of the answer
 
@@ -83,6 +85,13 @@ pub record Tail (frame : List ℕ) (head : Tested) (count : ℕ) (items shape : 
       es (openRangesIn shape ends items (rule .bound)) r ends ends′ a
 
 -- ---- the whole frame
+
+-- the from list, the counts, the row bound, and what the where tells
+pub record OpeningOf (grouped : Bool) (frame shape : List ℕ) (ends : List ℤ) (o : Opening) : Type 0 where
+  pub froms : length (fromsIn frame) ≤ 6 → relationsIn (o .items) ≡ fromsIn frame
+  pub parts-are : o .parts ≡ partsAfter grouped (getD frame 1 0) frame
+  pub product : ProductBound shape (relationsIn (o .items)) (o .bound)
+  pub tested : TestsC frame (o .parts .body) (relationsIn (o .items)) shape ends (plainRule (o .bound) true) (o .filter)
 
 -- for every draft that the arrays stand for, and every view that the frame's bytes read as
 pub record Rules (reader : Draft → Reader Item) (frame : List ℕ) (r : ℕ) (shape : List ℕ) (ends ends′ : List ℤ) (a : Ruled) : Type 0 where

@@ -1,6 +1,8 @@
 // What a frame without fault adds to the arrays, and the number of candidates.
 use catalog::arrays;
+use catalog::frames;
 use catalog::frames::COLUMNS;
+use catalog::frames::SetParts;
 use range::Range;
 use slice::byte_at;
 use value::domain::Domain;
@@ -10,7 +12,7 @@ ghost use mathlib.Core.Bool.{cond};
 ghost use Prim.Native.Nat.{_+_, _*_, _≤_, min};
 ghost use Rattle.value.specs.Machine.{columnOf};
 ghost use Rattle.meaning.specs.Bounds.{setBound};
-ghost use Rattle.catalog.specs.Arrays.{widthAt, putShape, putRanges};
+ghost use Rattle.catalog.specs.Arrays.{widthAt, boundAt, putShape, putRanges};
 ghost use Rattle.checker.specs.Entries.{columnFrom, columnIn, HullsPut, TableEntered, SetEntered};
 ghost use Rattle.checker.specs.FixedFaults.{setOperation};
 ghost use Rattle.checker.specs.CandidateCount.{tooMany, cappedProduct, columnsFrom, tableCells, CandidatesOf};
@@ -19,8 +21,11 @@ const TABLE: u8 = 1;
 
 const VIEW: u8 = 2;
 
-// The first number of candidates that is too large.
-pub const TOO_MANY: u64 = 16777217;
+// The largest number of candidates that a file may have, 2^24.
+pub const CANDIDATE_LIMIT: u64 = 16777216;
+
+// The first number that is too large.
+pub const TOO_MANY: u64 = CANDIDATE_LIMIT + 1;
 
 // The column whose four bytes stand at a place.
 fn domain_at(bytes: &[u8], at: usize) -> Domain
@@ -56,9 +61,9 @@ fn put_columns(frame: &[u8], ends: &mut [i32], r: u8, width: u8)
 pub fn enter_table(frame: &[u8], shape: &mut [u8], ends: &mut [i32], r: u8)
     ensures { λ _. ⌜ TableEntered (now (frame .entry)) r (now (shape .entry)) (now (ends .entry)) (now (shape .exit)) (now (ends .exit)) ⌝ }
 {
-    let width = byte_at(frame, 2);
-    put_columns(frame, ends, r, width);
-    arrays::put_shape(shape, r, TABLE, width, byte_at(frame, 1), byte_at(frame, 3));
+    let parts = frames::table_parts(frame);
+    put_columns(frame, ends, r, parts.width);
+    arrays::put_shape(shape, r, TABLE, parts.width, parts.rows, parts.mask);
 }
 
 // A view as relation r, whose ranges are already stored.
@@ -92,9 +97,8 @@ fn least(a: u8, b: u8) -> u8
     if a <= b { a } else { b }
 }
 
-// The row bound of a union or an intersection, at most 255.
-// Refused: twice the left's for the sum; the left's for the smaller.
-pub fn set_bound(union: bool, a: u8, b: u8) -> u8
+// The row bound of a union or an intersection of relations with the row bounds a and b, at most 255.
+fn joined_bound(union: bool, a: u8, b: u8) -> u8
     ensures { λ n. ⌜ n ≡ min (setBound (setOperation union) a b) 255 ⌝ }
 {
     if union {
@@ -102,6 +106,25 @@ pub fn set_bound(union: bool, a: u8, b: u8) -> u8
     } else {
         least(a, b)
     }
+}
+
+// The row bound of a union or an intersection of two relations, at most 255.
+// Refused: the left's row bound twice; the right's twice.
+pub fn set_bound(union: bool, shape: &[u8], left: u8, right: u8) -> u8
+    ensures { λ n. ⌜ n ≡ min (setBound (setOperation union) (boundAt (now (shape .entry)) left) (boundAt (now (shape .entry)) right)) 255 ⌝ }
+{
+    let a = arrays::bound_of(shape, left);
+    let b = arrays::bound_of(shape, right);
+    joined_bound(union, a, b)
+}
+
+// The number of columns of the narrower of two relations.
+fn common_width(shape: &[u8], left: u8, right: u8) -> u8
+    ensures { λ w. ⌜ w ≡ min (widthAt (now (shape .entry)) left) (widthAt (now (shape .entry)) right) ⌝ }
+{
+    let v = arrays::width_of(shape, left);
+    let w = arrays::width_of(shape, right);
+    least(v, w)
 }
 
 // Whose ranges join the left's in hulls: an intersection keeps the left's, and the hull of a range with itself is that range.
@@ -113,19 +136,14 @@ fn joined_with(union: bool, left: u8, right: u8) -> u8
 
 // A set view as relation r: the columns of the narrower, for the fault of unequal widths is found elsewhere.
 // Refused: the left's row bound twice; hulls for an intersection.
-pub fn enter_set(union: bool, left: u8, right: u8, shape: &mut [u8], ends: &mut [i32], r: u8)
-    ensures { λ _. ⌜ SetEntered (setOperation union) left right r (now (shape .entry)) (now (ends .entry)) (now (shape .exit)) (now (ends .exit)) ⌝ }
+pub fn enter_set(union: bool, operands: SetParts, shape: &mut [u8], ends: &mut [i32], r: u8)
+    ensures { λ _. ⌜ SetEntered (setOperation union) (operands .left) (operands .right) r (now (shape .entry)) (now (ends .entry)) (now (shape .exit)) (now (ends .exit)) ⌝ }
 {
+    let left = operands.left;
+    let right = operands.right;
     let other = joined_with(union, left, right);
-    let width = least(
-        arrays::width_of(shape, left),
-        arrays::width_of(shape, other),
-    );
-    let bound = set_bound(
-        union,
-        arrays::bound_of(shape, left),
-        arrays::bound_of(shape, right),
-    );
+    let width = common_width(shape, left, other);
+    let bound = set_bound(union, shape, left, right);
     put_hulls(shape, ends, left, other, r, width);
     enter_view(shape, r, width, bound);
 }
@@ -168,7 +186,7 @@ fn times_table(shape: &[u8], ends: &[i32], t: u8, n: u64) -> u64
     p
 }
 
-// The number of candidates of a file's tables, the first relations; 2^24 + 1 stands for any larger number.
+// The number of candidates of a file's tables, the first relations; TOO_MANY stands for any larger number.
 // Refused: 0 with no cells; the first table counted for each.
 pub fn candidates_of(shape: &[u8], ends: &[i32], tables: u8) -> u64
     ensures { λ n. ⌜ CandidatesOf (now (shape .entry)) (now (ends .entry)) tables n ⌝ }

@@ -6,7 +6,8 @@ ghost use Rattle.value.specs.Integer.{bytesZ};
 ghost use Rattle.language.specs.Frames.{columnField, pairField};
 ghost use Rattle.catalog.specs.Frames.{columnsStart};
 ghost use Rattle.checker.specs.Faults.{faultAt};
-ghost use Rattle.checker.specs.FixedFaults.{columnsFault, pairsFault, parentCount, columnPairing, pairing, setOperation, setRules, TableFault, KeyFault, SetFault, GoalFault};
+ghost use Rattle.checker.specs.FixedFaults.{columnsFault, tableHead, tableColumns, pairsFault, parentCount, columnPairing, pairing, keyHead, keyPairs, keyBody};
+ghost use Rattle.checker.specs.FixedFaults.{setOperation, setBytes, setRules, TableFault, KeyFault, SetFault, GoalFault};
 use super::entries;
 use super::fields;
 use catalog::arrays;
@@ -67,24 +68,34 @@ fn columns_fault(frame: &[u8], n: u8) -> u8
     0
 }
 
+// The numbers of rows and of columns, which is n, and the key mask.
+fn table_head(frame: &[u8], n: u8) -> u8
+    ensures { λ r. ⌜ r ≡ tableHead (now (frame .entry)) n ⌝ }
+{
+    let rows = fields::between(frame, 1, 5, 0, 8);
+    let columns = fields::between(frame, 2, 5, 1, 4);
+    let mask = fields::below(frame, 3, 5, masks_of(n));
+    fields::first_of(rows, fields::first_of(columns, mask))
+}
+
+// The columns, and nothing behind them.
+fn table_columns(frame: &[u8], n: u8) -> u8
+    ensures { λ r. ⌜ r ≡ tableColumns (now (frame .entry)) n ⌝ }
+{
+    let ranges = columns_fault(frame, n);
+    let end = fields::ends_at(frame, COLUMNS + (n as usize) * 4);
+    fields::first_of(ranges, end)
+}
+
 // The fault of a table's frame; 0 for none.
-// Refused: a ninth row; a surplus byte.
+// Refused: as many columns as rows; the columns before the counts.
 pub fn table_fault(frame: &[u8]) -> u8
     ensures { λ r. ⌜ TableFault (now (frame .entry)) r ⌝ }
 {
     let n = slice::byte_at(frame, 2);
-    let rows = fields::between(frame, 1, 5, 0, 8);
-    let columns = fields::between(frame, 2, 5, 1, 4);
-    let mask = fields::below(frame, 3, 5, masks_of(n));
-    let ranges = columns_fault(frame, n);
-    let end = fields::ends_at(frame, COLUMNS + (n as usize) * 4);
-    fields::first_of(
-        rows,
-        fields::first_of(
-            columns,
-            fields::first_of(mask, fields::first_of(ranges, end)),
-        ),
-    )
+    let head = table_head(frame, n);
+    let columns = table_columns(frame, n);
+    fields::first_of(head, columns)
 }
 
 // ---- 02 foreign key
@@ -161,42 +172,69 @@ fn pairing_fault(frame: &[u8], n: u8, width: u8, mask: u8) -> u8
     0
 }
 
+// The child, the parent and the number of pairs.
+fn key_head(frame: &[u8], tables: u8) -> u8
+    ensures { λ r. ⌜ r ≡ keyHead (now (frame .entry)) tables ⌝ }
+{
+    let from = fields::below(frame, 1, 6, tables);
+    let to = fields::below(frame, 2, 6, tables);
+    let count = fields::between(frame, 3, 5, 1, 4);
+    fields::first_of(from, fields::first_of(to, count))
+}
+
+// The n pairs of columns of tables with c and p columns, and nothing behind them.
+fn key_pairs(frame: &[u8], c: u8, p: u8, n: u8) -> u8
+    ensures { λ r. ⌜ r ≡ keyPairs (now (frame .entry)) c p n ⌝ }
+{
+    let pairs = pairs_fault(frame, c, p, n);
+    let end = fields::ends_at(frame, 4 + (n as usize) * 2);
+    fields::first_of(pairs, end)
+}
+
+// The n pairs, and then the rule on the parent's key.
+fn key_body(frame: &[u8], shape: &[u8], child: u8, parent: u8, n: u8) -> u8
+    ensures { λ r. ⌜ r ≡ keyBody (now (frame .entry)) (now (shape .entry)) child parent n ⌝ }
+{
+    let c = arrays::width_of(shape, child);
+    let p = arrays::width_of(shape, parent);
+    let pairs = key_pairs(frame, c, p, n);
+    let rule = pairing_fault(frame, n, p, arrays::mask_of(shape, parent));
+    fields::first_of(pairs, rule)
+}
+
 // The fault of a foreign key's frame.
-// Refused: the child's columns for the parent's; the pairing before the end.
+// Refused: the parent as child; the pairs before the tables.
 pub fn key_fault(frame: &[u8], shape: &[u8], tables: u8) -> u8
     ensures { λ r. ⌜ KeyFault (now (frame .entry)) (now (shape .entry)) tables r ⌝ }
 {
     let child = slice::byte_at(frame, 1);
     let parent = slice::byte_at(frame, 2);
     let n = slice::byte_at(frame, 3);
-    let c = arrays::width_of(shape, child);
-    let p = arrays::width_of(shape, parent);
-    let mask = arrays::mask_of(shape, parent);
-    let from = fields::below(frame, 1, 6, tables);
-    let to = fields::below(frame, 2, 6, tables);
-    let count = fields::between(frame, 3, 5, 1, 4);
-    let pairs = pairs_fault(frame, c, p, n);
-    let end = fields::ends_at(frame, 4 + (n as usize) * 2);
-    let rule = pairing_fault(frame, n, p, mask);
-    fields::first_of(
-        from,
-        fields::first_of(
-            to,
-            fields::first_of(count, fields::first_of(pairs, fields::first_of(end, rule))),
-        ),
-    )
+    let head = key_head(frame, tables);
+    let body = key_body(frame, shape, child, parent, n);
+    fields::first_of(head, body)
 }
 
 // ---- 05 union, 06 intersection
 
-// The rules on a set view of two relations by their columns, v and w, and their row bounds, a and b.
-fn set_rules(union: bool, v: u8, w: u8, a: u8, b: u8) -> u8
-    ensures { λ r. ⌜ r ≡ setRules (setOperation union) v w a b ⌝ }
+// Two views, and nothing behind them.
+fn set_bytes(frame: &[u8], tables: u8, count: u8) -> u8
+    ensures { λ r. ⌜ r ≡ setBytes (now (frame .entry)) tables count ⌝ }
 {
-    if v != w {
+    let left = fields::from_below(frame, 1, 6, tables, count);
+    let right = fields::from_below(frame, 2, 6, tables, count);
+    let end = fields::ends_at(frame, 3);
+    fields::first_of(left, fields::first_of(right, end))
+}
+
+// The rules on a set view of two relations.
+fn set_rules(union: bool, shape: &[u8], i: u8, j: u8) -> u8
+    ensures { λ r. ⌜ r ≡ setRules (setOperation union) (now (shape .entry)) i j ⌝ }
+{
+    if arrays::width_of(shape, i) != arrays::width_of(shape, j) {
         return 6;
     }
-    if entries::set_bound(union, a, b) <= 64 {
+    if entries::set_bound(union, shape, i, j) <= 64 {
         0
     } else {
         8
@@ -204,21 +242,15 @@ fn set_rules(union: bool, v: u8, w: u8, a: u8, b: u8) -> u8
 }
 
 // The fault of the frame of a union or an intersection.
-// Refused: a table as a view; the rules before the end.
+// Refused: the right operand as left; the rules before the bytes.
 pub fn set_fault(frame: &[u8], shape: &[u8], tables: u8, count: u8, union: bool) -> u8
     ensures { λ r. ⌜ SetFault (now (frame .entry)) (now (shape .entry)) tables count (setOperation union) r ⌝ }
 {
     let i = slice::byte_at(frame, 1);
     let j = slice::byte_at(frame, 2);
-    let v = arrays::width_of(shape, i);
-    let w = arrays::width_of(shape, j);
-    let a = arrays::bound_of(shape, i);
-    let b = arrays::bound_of(shape, j);
-    let left = fields::from_below(frame, 1, 6, tables, count);
-    let right = fields::from_below(frame, 2, 6, tables, count);
-    let end = fields::ends_at(frame, 3);
-    let rules = set_rules(union, v, w, a, b);
-    fields::first_of(left, fields::first_of(right, fields::first_of(end, rules)))
+    let bytes = set_bytes(frame, tables, count);
+    let rules = set_rules(union, shape, i, j);
+    fields::first_of(bytes, rules)
 }
 
 // ---- 07 goal

@@ -14,7 +14,7 @@ ghost use mathlib.Core.Path.{_≡_};
 ghost use Prim.Native.Nat.{_≤_};
 ghost use lib.ListN.{length};
 ghost use Rattle.language.specs.FileOf.{fileOf};
-ghost use Rattle.checker.specs.Plans.{Walks, startFrom, frameOf, StartsPut, OutlineFrom, PlanFrom, Plans};
+ghost use Rattle.checker.specs.Plans.{Walks, startFrom, frameNumber, StartsPut, OutlineFrom, PlanFrom, Plans, Concludes, ReadsFrames};
 
 // How far the frames are taken.
 struct Walked {
@@ -53,7 +53,7 @@ fn walk(packed: &[u8], shape: &mut [u8], ends: &mut [i32]) -> Walked
 }
 
 // Where the frame behind n frames begins, its length byte first.
-fn start_of(bytes: &[u8], n: u16) -> u32
+fn place_behind(bytes: &[u8], n: u16) -> u32
     requires { ⌜ n ≤ 300 ⌝ }
     ensures { λ r. ⌜ r ≡ startFrom (now (bytes .entry)) 0 n ⌝ }
 {
@@ -67,9 +67,9 @@ fn start_of(bytes: &[u8], n: u16) -> u32
 }
 
 // The number of relation r's frame.
-fn frame_of(tables: u8, keys: u8, r: u8) -> u16
+fn frame_number(tables: u8, keys: u8, r: u8) -> u16
     requires { ⌜ r ≤ 16 ⌝ }
-    ensures { λ n. ⌜ (n ≡ frameOf tables keys r) × (n ≤ 300) ⌝ }
+    ensures { λ n. ⌜ (n ≡ frameNumber tables keys r) × (n ≤ 300) ⌝ }
 {
     if r < tables {
         return r as u16;
@@ -83,7 +83,7 @@ fn put_starts(bytes: &[u8], tables: u8, keys: u8, shape: &mut [u8])
 {
     let mut r: u8 = 0;
     while r < 16 {
-        let start = start_of(bytes, frame_of(tables, keys, r));
+        let start = place_behind(bytes, frame_number(tables, keys, r));
         arrays::put_start(shape, r, start);
         r = r + 1;
     }
@@ -93,7 +93,7 @@ fn put_starts(bytes: &[u8], tables: u8, keys: u8, shape: &mut [u8])
 fn outline_from(bytes: &[u8], shape: &[u8], s: Progress) -> Outline
     ensures { λ o. ⌜ OutlineFrom (now (bytes .entry)) (now (shape .entry)) s o ⌝ }
 {
-    let foreign = start_of(bytes, s.tables as u16);
+    let foreign = place_behind(bytes, s.tables as u16);
     let filled = outline::some_row(shape, s.tables);
     Outline {
         tables: s.tables,
@@ -159,24 +159,10 @@ fn refusal(number: u8, line: u16) -> Plan
     }
 }
 
-// The plan of the file that a text means, or its refusal by 1 to 10 with its line.
-// Refused: every text by 3; 2^24 candidates by 10.
-pub fn check(text: &[u8]) -> Plan
-    ensures { λ r. ⌜ Plans (fileOf (now (text .entry))) r ⌝ }
+// The plan of a file whose frames were all walked without fault, or its refusal where it has no goal or too many candidates.
+fn conclude(bytes: [u8; text::ROOM], s: Progress, shape: [u8; 128], ends: [i32; 256]) -> Plan
+    ensures { λ p. ⌜ Concludes bytes s shape ends p ⌝ }
 {
-    let frames = text::decode(text);
-    if frames.number != 0 {
-        return refusal(frames.number, frames.line);
-    }
-    let bytes = frames.bytes;
-    let used = frames.used;
-    let mut shape = [0u8; 128];
-    let mut ends = [0i32; 256];
-    let walked = walk(&bytes[..used], &mut shape, &mut ends);
-    if walked.number != 0 {
-        return refusal(walked.number, walked.line);
-    }
-    let s = walked.state;
     if s.stage != 5 {
         return refusal(3, 0);
     }
@@ -185,4 +171,32 @@ pub fn check(text: &[u8]) -> Plan
         return refusal(10, 0);
     }
     plan_from(bytes, s, shape, ends, n)
+}
+
+// The plan of the file whose packed frames stand in the first `used` bytes, or its refusal.
+fn read_frames(bytes: [u8; text::ROOM], used: usize) -> Plan
+    requires { ⌜ used ≤ 5462 ⌝ }
+    ensures { λ p. ⌜ ReadsFrames bytes used p ⌝ }
+{
+    let mut shape = [0u8; 128];
+    let mut ends = [0i32; 256];
+    let walked = walk(&bytes[..used], &mut shape, &mut ends);
+    if walked.number != 0 {
+        return refusal(walked.number, walked.line);
+    }
+    let s = walked.state;
+    conclude(bytes, s, shape, ends)
+}
+
+// The plan of the file that a text means, or its refusal by 1 to 10 with its line.
+// Refused: the refusal of a text without its line; the plan of no frames.
+pub fn check(text: &[u8]) -> Plan
+    ensures { λ r. ⌜ Plans (fileOf (now (text .entry))) r ⌝ }
+{
+    let frames = text::decode(text);
+    if frames.number != 0 {
+        return refusal(frames.number, frames.line);
+    }
+    let bytes = frames.bytes;
+    read_frames(bytes, frames.used)
 }

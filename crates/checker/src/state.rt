@@ -1,4 +1,5 @@
 // What the checker has counted so far, the stage of the order, and the goal.
+use catalog::plan::Goal;
 ghost use mathlib.Core.Path.{_≡_};
 ghost use Rattle.language.specs.Draft.{stageOf};
 ghost use Rattle.checker.specs.Standing.{startProgress, roomFor, turnFault, more, withTable, withKey, withView, withGoal};
@@ -129,16 +130,16 @@ pub fn with_view(s: Progress) -> Progress
 }
 
 // The goal.
-// Refused: the signs swapped; a frame may follow.
-pub fn with_goal(s: Progress, view: u8, sign: u8) -> Progress
-    ensures { λ r. ⌜ r ≡ withGoal s view sign ⌝ }
+// Refused: the sign left out; a frame may follow.
+pub fn with_goal(s: Progress, goal: Goal) -> Progress
+    ensures { λ r. ⌜ r ≡ withGoal s goal ⌝ }
 {
     Progress {
         tables: s.tables,
         relations: s.relations,
         keys: s.keys,
         stage: ENDED,
-        goal: view,
-        negative: sign == 1,
+        goal: goal.view,
+        negative: goal.negative,
     }
 }

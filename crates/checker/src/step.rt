@@ -5,8 +5,10 @@ use super::state;
 use super::state::Progress;
 use super::view_bytes;
 use super::view_rules;
+use catalog::frames;
 ghost use Rattle.language.specs.Written.{setKind};
 ghost use Rattle.checker.specs.FixedFaults.{setOperation};
+ghost use Rattle.checker.specs.ViewFaults.{ownKind};
 ghost use Rattle.checker.specs.Standing.{Turned, Stepped};
 
 pub struct Step {
@@ -47,35 +49,17 @@ fn key_step(frame: &[u8], shape: &[u8], ends: &[i32], s: Progress) -> Step
     }
 }
 
-fn basic_step(frame: &[u8], shape: &mut [u8], ends: &mut [i32], s: Progress) -> Step
-    ensures { λ r. ⌜ Turned 3 (now (frame .entry)) s (now (shape .entry)) (now (ends .entry)) (now (shape .exit)) (now (ends .exit)) r ⌝ }
+fn view_step(grouped: bool, frame: &[u8], shape: &mut [u8], ends: &mut [i32], s: Progress) -> Step
+    ensures { λ r. ⌜ Turned (ownKind grouped) (now (frame .entry)) s (now (shape .entry)) (now (ends .entry)) (now (shape .exit)) (now (ends .exit)) r ⌝ }
 {
-    let fault = view_bytes::basic_bytes(frame, shape, s.relations);
+    let fault = view_bytes::bytes_fault(frame, shape, s.relations, grouped);
     if fault != 0 {
         return Step {
             fault: fault,
             state: s,
         };
     }
-    let ruled = view_rules::basic_rules(frame, shape, ends, s.relations);
-    entries::enter_view(shape, s.relations, ruled.width, ruled.bound);
-    Step {
-        fault: ruled.fault,
-        state: state::with_view(s),
-    }
-}
-
-fn grouped_step(frame: &[u8], shape: &mut [u8], ends: &mut [i32], s: Progress) -> Step
-    ensures { λ r. ⌜ Turned 4 (now (frame .entry)) s (now (shape .entry)) (now (ends .entry)) (now (shape .exit)) (now (ends .exit)) r ⌝ }
-{
-    let fault = view_bytes::grouped_bytes(frame, shape, s.relations);
-    if fault != 0 {
-        return Step {
-            fault: fault,
-            state: s,
-        };
-    }
-    let ruled = view_rules::grouped_rules(frame, shape, ends, s.relations);
+    let ruled = view_rules::rules(frame, shape, ends, s.relations, grouped);
     entries::enter_view(shape, s.relations, ruled.width, ruled.bound);
     Step {
         fault: ruled.fault,
@@ -93,9 +77,8 @@ fn set_step(union: bool, frame: &[u8], shape: &mut [u8], ends: &mut [i32], s: Pr
             state: s,
         };
     }
-    let left = slice::byte_at(frame, 1);
-    let right = slice::byte_at(frame, 2);
-    entries::enter_set(union, left, right, shape, ends, s.relations);
+    let operands = frames::set_parts(frame);
+    entries::enter_set(union, operands, shape, ends, s.relations);
     Step {
         fault: 0,
         state: state::with_view(s),
@@ -106,11 +89,10 @@ fn goal_step(frame: &[u8], shape: &[u8], ends: &[i32], s: Progress) -> Step
     ensures { λ r. ⌜ Turned 7 (now (frame .entry)) s (now (shape .entry)) (now (ends .entry)) (now (shape .entry)) (now (ends .entry)) r ⌝ }
 {
     let fault = fixed::goal_fault(frame, s.tables, s.relations);
-    let view = slice::byte_at(frame, 1);
-    let sign = slice::byte_at(frame, 2);
+    let goal = frames::goal_of(frame);
     Step {
         fault: fault,
-        state: state::with_goal(s, view, sign),
+        state: state::with_goal(s, goal),
     }
 }
 
@@ -121,8 +103,8 @@ fn body_step(kind: u8, frame: &[u8], shape: &mut [u8], ends: &mut [i32], s: Prog
     match kind {
         1 => table_step(frame, shape, ends, s),
         2 => key_step(frame, shape, ends, s),
-        3 => basic_step(frame, shape, ends, s),
-        4 => grouped_step(frame, shape, ends, s),
+        3 => view_step(false, frame, shape, ends, s),
+        4 => view_step(true, frame, shape, ends, s),
         5 => set_step(true, frame, shape, ends, s),
         6 => set_step(false, frame, shape, ends, s),
         _ => goal_step(frame, shape, ends, s),

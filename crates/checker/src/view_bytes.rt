@@ -11,7 +11,7 @@ ghost use Rattle.prefix.specs.Skipped.{skipped};
 ghost use Rattle.catalog.specs.Items.{relationsIn, widthsIn, openIn};
 ghost use Rattle.language.specs.Frames.{repeated, placeField};
 ghost use Rattle.checker.specs.Faults.{faultAt, under};
-ghost use Rattle.checker.specs.ViewFaults.{fromsUnder, selectEnd, conditionSelect, whereGroups, BasicBytes, GroupedBytes};
+ghost use Rattle.checker.specs.ViewFaults.{fromsUnder, selectEnd, conditionSelect, whereGroups, countedSelect, countedWhere, countedGroups, behindFroms, BytesFault};
 
 fn wide(x: u8) -> usize
     ensures { λ r. ⌜ r ≡ x ⌝ }
@@ -111,32 +111,59 @@ fn where_groups(frame: &[u8], at: usize, items: Items, shape: &[u8], g: u8, m: u
     }
 }
 
-// The bytes of a basic view, the relations before it being `count`.
-// Refused: nine select expressions pass; a fault of the where condition before one of the select count.
-pub fn basic_bytes(frame: &[u8], shape: &[u8], count: u8) -> u8
-    ensures { λ r. ⌜ BasicBytes (now (frame .entry)) (now (shape .entry)) count r ⌝ }
+// The select count, and then a condition and so many select expressions.
+fn counted_select(frame: &[u8], at: usize, items: Items, shape: &[u8]) -> u8
+    requires { ⌜ at ≤ 65536 ⌝ }
+    ensures { λ r. ⌜ r ≡ faultAt (now (frame .entry)) at (countedSelect (widthsIn (now (shape .entry)) (relationsIn items))) ⌝ }
 {
-    let n = slice::byte_at(frame, 1);
-    let at = wide(n) + 2;
     let m = slice::byte_at(frame, at);
-    let items = from_items(frame);
+    let count = fields::between(frame, at, 5, 1, 8);
     let behind = condition_select(frame, at + 1, items, shape, m);
-    let counts = fields::first_of(fields::between(frame, at, 5, 1, 8), behind);
-    fields::first_of(from_list(frame, count), counts)
+    fields::first_of(count, behind)
 }
 
-// The bytes of an aggregate view, the relations before it being `count`.
-// Refused: five grouping columns pass; the two counts for each other.
-pub fn grouped_bytes(frame: &[u8], shape: &[u8], count: u8) -> u8
-    ensures { λ r. ⌜ GroupedBytes (now (frame .entry)) (now (shape .entry)) count r ⌝ }
+// The select count, and then the rest of an aggregate view with g grouping columns.
+fn counted_where(frame: &[u8], at: usize, items: Items, shape: &[u8], g: u8) -> u8
+    requires { ⌜ at ≤ 65536 ⌝ }
+    ensures { λ r. ⌜ r ≡ faultAt (now (frame .entry)) at (countedWhere (widthsIn (now (shape .entry)) (relationsIn items)) g) ⌝ }
 {
-    let n = slice::byte_at(frame, 1);
-    let at = wide(n) + 2;
+    let m = slice::byte_at(frame, at);
+    let select = fields::between(frame, at, 5, 1, 8);
+    let behind = where_groups(frame, at + 1, items, shape, g, m);
+    fields::first_of(select, behind)
+}
+
+// The grouping count, the select count and the rest of an aggregate view.
+fn counted_groups(frame: &[u8], at: usize, items: Items, shape: &[u8]) -> u8
+    requires { ⌜ at ≤ 65535 ⌝ }
+    ensures { λ r. ⌜ r ≡ faultAt (now (frame .entry)) at (countedGroups (widthsIn (now (shape .entry)) (relationsIn items))) ⌝ }
+{
     let g = slice::byte_at(frame, at);
-    let m = slice::byte_at(frame, at + 1);
+    let groups = fields::between(frame, at, 5, 0, 4);
+    let behind = counted_where(frame, at + 1, items, shape, g);
+    fields::first_of(groups, behind)
+}
+
+// What stands behind the from list of an aggregate or of a basic view.
+fn behind_froms(frame: &[u8], at: usize, items: Items, shape: &[u8], grouped: bool) -> u8
+    requires { ⌜ at ≤ 65535 ⌝ }
+    ensures { λ r. ⌜ r ≡ faultAt (now (frame .entry)) at (behindFroms grouped (widthsIn (now (shape .entry)) (relationsIn items))) ⌝ }
+{
+    if grouped {
+        counted_groups(frame, at, items, shape)
+    } else {
+        counted_select(frame, at, items, shape)
+    }
+}
+
+// The bytes of an aggregate or of a basic view, the relations before it being `count`.
+// Refused: the from list behind the rest; the bytes of a basic view for an aggregate one.
+pub fn bytes_fault(frame: &[u8], shape: &[u8], count: u8, grouped: bool) -> u8
+    ensures { λ r. ⌜ BytesFault grouped (now (frame .entry)) (now (shape .entry)) count r ⌝ }
+{
+    let at = wide(slice::byte_at(frame, 1)) + 2;
     let items = from_items(frame);
-    let behind = where_groups(frame, at + 1 + 1, items, shape, g, m);
-    let select = fields::first_of(fields::between(frame, at + 1, 5, 1, 8), behind);
-    let counts = fields::first_of(fields::between(frame, at, 5, 0, 4), select);
-    fields::first_of(from_list(frame, count), counts)
+    let froms = from_list(frame, count);
+    let behind = behind_froms(frame, at, items, shape, grouped);
+    fields::first_of(froms, behind)
 }

@@ -4,6 +4,7 @@ use bounds::Rule;
 use bounds::Tested;
 use catalog::arrays;
 use catalog::frames;
+use catalog::frames::Parts;
 use catalog::items::Items;
 use catalog::items::from_items;
 use catalog::items::relation;
@@ -15,13 +16,28 @@ ghost use lib.ListN.{length, drop};
 ghost use Rattle.catalog.specs.Items.{relationsIn};
 ghost use Rattle.bounds.specs.Walk.{isWithin, TestsC};
 ghost use Rattle.language.specs.Frames.{basicFrame, groupedFrame};
-ghost use Rattle.checker.specs.ViewRules.{putRanged, factorAt, viewFault, plainRule, ProductBound, Selects, Tail, Rules};
+ghost use Rattle.checker.specs.ViewRules.{putRanged, factorAt, viewFault, plainRule, ProductBound, Selects, Tail, OpeningOf, Rules};
+ghost use Rattle.checker.specs.ViewFaults.{ownFrame};
 
 // The fault of a view's frame that its bytes leave open, 0 for none; its row bound and its number of columns.
 pub struct Ruled {
     pub fault: u8,
     pub bound: u8,
     pub width: u8,
+}
+
+// The select expressions of a view: how many there are, and the rule on them.
+struct SelectList {
+    count: u8,
+    rule: Rule,
+}
+
+// What a view's frame begins with: its from items, its counts, its row bound, and what its where tells.
+struct Opening {
+    items: Items,
+    parts: Parts,
+    bound: u32,
+    filter: Tested,
 }
 
 // Of the select expressions: whether the rule on 07 is kept, and whether every range inside them fits 32 bits.
@@ -63,19 +79,20 @@ fn store(ends: &mut [i32], r: u8, c: u8, x: Ranged) -> bool
     }
 }
 
-// `count` select expressions from `start` on, as the columns of relation r.
+// The select expressions from `start` on, as the columns of relation r.
 fn selects(
     frame: &[u8],
     start: usize,
-    count: u8,
+    list: SelectList,
     items: Items,
     shape: &[u8],
     ends: &mut [i32],
     r: u8,
-    rule: Rule,
 ) -> Selected
-    ensures { λ s. ⌜ Selects (now (frame .entry)) start count (relationsIn items) (now (shape .entry)) (now (ends .entry)) r rule (now (ends .exit)) (s .allowed) (s .within) ⌝ }
+    ensures { λ s. ⌜ Selects (now (frame .entry)) start (list .count) (relationsIn items) (now (shape .entry)) (now (ends .entry)) r (list .rule) (now (ends .exit)) (s .allowed) (s .within) ⌝ }
 {
+    let rule = list.rule;
+    let count = list.count;
     let mut at = start;
     let mut allowed = true;
     let mut within = true;
@@ -115,22 +132,22 @@ fn rules_fault(allowed: bool, bound: u32, within: bool) -> u8
 fn tail(
     frame: &[u8],
     head: Tested,
-    count: u8,
+    list: SelectList,
     items: Items,
     shape: &[u8],
     ends: &mut [i32],
     r: u8,
-    rule: Rule,
 ) -> Ruled
-    ensures { λ a. ⌜ Tail (now (frame .entry)) head count (relationsIn items) (now (shape .entry)) (now (ends .entry)) r rule (now (ends .exit)) a ⌝ }
+    ensures { λ a. ⌜ Tail (now (frame .entry)) head (list .count) (relationsIn items) (now (shape .entry)) (now (ends .entry)) r (list .rule) (now (ends .exit)) a ⌝ }
 {
-    let s = selects(frame, head.next, count, items, shape, ends, r, rule);
+    let rule = list.rule;
+    let s = selects(frame, head.next, list, items, shape, ends, r);
     let allowed = head.allowed & s.allowed;
     let within = head.within & s.within;
     Ruled {
         fault: rules_fault(allowed, rule.bound, within),
         bound: (rule.bound % 256) as u8,
-        width: count,
+        width: list.count,
     }
 }
 
@@ -172,31 +189,49 @@ fn both(w: Tested, h: Tested) -> Tested
     }
 }
 
-// The rules on the whole frame of a basic view, 7, 8 and 9, and the ranges of its columns.
-// Refused: no columns; its ranges as relation 0's.
-pub fn basic_rules(frame: &[u8], shape: &[u8], ends: &mut [i32], r: u8) -> Ruled
-    ensures { λ a. ⌜ Rules basicFrame (now (frame .entry)) r (now (shape .entry)) (now (ends .entry)) (now (ends .exit)) a ⌝ }
+// What the frame of an aggregate or of a basic view begins with.
+fn opening_of(frame: &[u8], shape: &[u8], ends: &[i32], grouped: bool) -> Opening
+    ensures { λ o. ⌜ OpeningOf grouped (now (frame .entry)) (now (shape .entry)) (now (ends .entry)) o ⌝ }
 {
     let items = from_items(frame);
-    let parts = frames::parts_after(frame, false);
+    let parts = frames::parts_after(frame, grouped);
     let bound = product_bound(items, shape);
-    let w = filtered(frame, parts.body, items, shape, ends, bound);
-    let rule = plain(bound, false);
-    tail(frame, w, parts.width, items, shape, ends, r, rule)
+    let filter = filtered(frame, parts.body, items, shape, ends, bound);
+    Opening {
+        items: items,
+        parts: parts,
+        bound: bound,
+        filter: filter,
+    }
+}
+
+// The rules on the whole frame of a basic view, and the ranges of its columns.
+fn basic_rules(frame: &[u8], shape: &[u8], ends: &mut [i32], r: u8) -> Ruled
+    ensures { λ a. ⌜ Rules basicFrame (now (frame .entry)) r (now (shape .entry)) (now (ends .entry)) (now (ends .exit)) a ⌝ }
+{
+    let o = opening_of(frame, shape, ends, false);
+    let items = o.items;
+    let parts = o.parts;
+    let filter = o.filter;
+    let rule = plain(o.bound, false);
+    let list = SelectList {
+        count: parts.width,
+        rule: rule,
+    };
+    tail(frame, filter, list, items, shape, ends, r)
 }
 
 // The same of an aggregate view.
-// Refused: the where left out; the bytes of the where as grouping columns.
-pub fn grouped_rules(frame: &[u8], shape: &[u8], ends: &mut [i32], r: u8) -> Ruled
+fn grouped_rules(frame: &[u8], shape: &[u8], ends: &mut [i32], r: u8) -> Ruled
     ensures { λ a. ⌜ Rules groupedFrame (now (frame .entry)) r (now (shape .entry)) (now (ends .entry)) (now (ends .exit)) a ⌝ }
 {
-    let items = from_items(frame);
-    let parts = frames::parts_after(frame, true);
-    let bound = product_bound(items, shape);
-    let w = filtered(frame, parts.body, items, shape, ends, bound);
-    let places = inside(frame, w.next);
+    let o = opening_of(frame, shape, ends, true);
+    let items = o.items;
+    let parts = o.parts;
+    let filter = o.filter;
+    let places = inside(frame, filter.next);
     let rule = Rule {
-        bound: bound,
+        bound: o.bound,
         grouped: true,
         filter: false,
         places: places,
@@ -204,5 +239,20 @@ pub fn grouped_rules(frame: &[u8], shape: &[u8], ends: &mut [i32], r: u8) -> Rul
     };
     let having = places + 2 * (parts.groups as usize);
     let h = bounds::condition(frame, having, items, shape, ends, rule);
-    tail(frame, both(w, h), parts.width, items, shape, ends, r, rule)
+    let list = SelectList {
+        count: parts.width,
+        rule: rule,
+    };
+    tail(frame, both(filter, h), list, items, shape, ends, r)
+}
+
+// The rules on the whole frame of an aggregate or of a basic view, 7, 8 and 9, and the ranges of its columns.
+// Refused: an aggregate view's ranges as relation 0's; a basic view's.
+pub fn rules(frame: &[u8], shape: &[u8], ends: &mut [i32], r: u8, grouped: bool) -> Ruled
+    ensures { λ a. ⌜ Rules (ownFrame grouped) (now (frame .entry)) r (now (shape .entry)) (now (ends .entry)) (now (ends .exit)) a ⌝ }
+{
+    if grouped {
+        return grouped_rules(frame, shape, ends, r);
+    }
+    basic_rules(frame, shape, ends, r)
 }

@@ -98,6 +98,11 @@ good-ending v p (b ∷ bs) = Good.refusal four
 pub fair-ending : {A : Type 0} {P : A → Type 0} (v : A) → P v → Fair Nil (ending v) P
 fair-ending v p = record { good = good-ending v p }
 
+-- what was read is what the end answers
+pub ending-ok : {A : Type 0} (x y : A) (bs : List ℕ) → ending x bs ≡ Read.ok y [] → x ≡ y
+ending-ok x y [] e = cc
+ending-ok x y (b ∷ bs) e = let z : _≡_ {A = ℕ} 0 1 = cc in absurd (omega arith)
+
 pub fair-times : {A : Type 0} {r : Reader A} {P : A → Type 0} → Fair Anything r P → (n : ℕ) → Fair Anything (repeated n r) (λ xs. (length xs ≡ n) × All P xs)
 fair-times s zero = fair-done (refl, All.nil)
 fair-times s (suc n) = fair-bind s (λ x p. fair-bind (fair-times s n) (λ xs q. fair-done (ap suc (q .0), All.cons p (q .1))))

@@ -46,3 +46,13 @@ bits-back (false ∷ ks) =
     let m = 0 + 2 * maskOf ks in
     let e : m / 2 ≡ maskOf ks = omega arith in
     ap₂ _∷_ (ne-eqb (m % 2) 1 (λ q. omega arith)) (ap (maskBits (length ks)) e ∙ bits-back ks)
+
+-- ---- column by column
+
+pub bit-first : (k : Bool) (ks : List Bool) → maskOf (k ∷ ks) % 2 ≡ cond k 1 0
+bit-first true ks = omega arith
+bit-first false ks = omega arith
+
+pub bits-after : (k : Bool) (ks : List Bool) → maskOf (k ∷ ks) / 2 ≡ maskOf ks
+bits-after true ks = omega arith
+bits-after false ks = omega arith

@@ -10,10 +10,10 @@ use Prim.Native.Nat.{ℕ, _+_, _*_, _/_, _%_, _≤_, _<_}
 use native.Mathlib.Nat.{le-trans, le-refl, not-suc-le-zero}
 use native.Mathlib.Omega.{arith}
 use lib.Dec.{leb, eqb}
-use lib.ListN.{length, length-append}
+use lib.ListN.{length, getD, drop, length-append}
 use borrow.Author.Tests.{eqb-true, leb-true}
 use Rattle.value.specs.Bag.{All}
-use Rattle.value.proofs.Decides.{and-parts}
+use Rattle.value.proofs.Decides.{by-test, and-parts}
 use Rattle.language.specs.Reading.{Read, Reader, done, refuse, andThen, _>>=_, byte, either, byteIf, twoBytes, choose, step}
 use Rattle.meaning.proofs.Elements.{all-behind}
 
@@ -25,6 +25,14 @@ pub then-ok : {A B : Type 0} (m : Read A) (f : A → Reader B) {b : B} {rest : L
     → (a : A) × (mid : List ℕ) × (m ≡ Read.ok a mid) × (f a mid ≡ Read.ok b rest)
 then-ok (Read.ok a mid) f e = (a, mid, refl, e)
 then-ok (Read.refused n) f {b} {rest} e = let z : _≡_ {A = ℕ} 0 1 = cc in absurd (omega arith)
+
+-- and where it began with a byte, that byte passed its test
+pub byte-ok : {B : Type 0} (n : ℕ) (p : ℕ → Bool) (bs : List ℕ) (k : ℕ → Reader B) {x : B} {rest : List ℕ} → (byteIf n p >>= k) bs ≡ Read.ok x rest
+    → (p (getD bs 0 0) ≡ true) × (k (getD bs 0 0) (drop 1 bs) ≡ Read.ok x rest)
+byte-ok n p [] k {x} {rest} e = let z : _≡_ {A = ℕ} 0 1 = cc in absurd (omega arith)
+byte-ok n p (b ∷ bs) k {x} {rest} e = by-test (p b)
+    (λ t. (t, rw t at e))
+    (λ t. let e′ : _≡_ (Read.refused n) (Read.ok x rest) = rw t at e in let z : _≡_ {A = ℕ} 0 1 = cc in absurd (omega arith))
 
 -- ---- soundness
 

@@ -17,7 +17,7 @@ use Rattle.meaning.specs.Decided.{shownIn}
 use Rattle.meaning.proofs.Numbering.{length-cells}
 use Rattle.text.specs.Answers.{Written}
 use Rattle.text.proofs.Writing.{length-line}
-use Rattle.language.specs.Check.{Outcome}
+use Rattle.language.specs.Check.{Outcome, candidateLimit}
 use Rattle.language.specs.FileOf.{fileOf}
 use Rattle.language.specs.Legal.{Legal}
 use Rattle.language.proofs.TextLaws.{accepted-text}
@@ -65,7 +65,7 @@ pub record Said (text : List ℕ) (x : Answer) (inst : List ℤ) : Type 0 where
   pub refused : (n l : ℕ) → x ≡ Answer.refused n l → outcomeFrames (fileOf text) ≡ refusalFrame n l ∷ []
   pub spent : (next : ℕ) → x ≡ Answer.spent next → ⊥
 
-module _ (text : List ℕ) (count : ℕ) (work inst : List ℤ) (x : Answer) (w i : List ℤ) (many : 16777216 ≤ count) (whole : workSize ≤ length work)
+module _ (text : List ℕ) (count : ℕ) (work inst : List ℤ) (x : Answer) (w i : List ℤ) (many : candidateLimit ≤ count) (whole : workSize ≤ length work)
     (room : 512 ≤ length inst) (looked : After.after x w i ≡ lookOf text 0 count work inst) where
   -- 512 numbers are enough for the cells of any file
   cells-fit : (F : File) → fileOf text ≡ Outcome.accepted F → cellCount F ≤ length inst
@@ -126,7 +126,7 @@ module _ (text : List ℕ) (count : ℕ) (work inst : List ℤ) (x : Answer) (w 
   }
 
 -- by a look at the text's plan
-pub said-planned : (text : List ℕ) {p : Plan} {count : ℕ} {work inst : List ℤ} {a : Answered} {w i : List ℤ} → 16777216 ≤ count → workSize ≤ length work
+pub said-planned : (text : List ℕ) {p : Plan} {count : ℕ} {work inst : List ℤ} {a : Answered} {w i : List ℤ} → candidateLimit ≤ count → workSize ≤ length work
     → 512 ≤ length inst → Plans (fileOf text) p → LooksAt p 0 count work inst a w i → Said text (answerOf a) i
 said-planned text {count = count} {work} {inst} {a} {w} {i} many whole room P L =
     said text count work inst (answerOf a) w i many whole room (looks-planned text L P)

@@ -2,6 +2,7 @@
 use super::datum::Datum;
 use super::integer;
 ghost use mathlib.Core.Path.{_≡_};
+ghost use Prim.Native.Nat.{_≤_};
 ghost use Rattle.value.specs.Value.{size as sizeC, digit as digitC, narrowed};
 ghost use Rattle.value.specs.Machine.{valueOf, columnOf};
 
@@ -11,10 +12,10 @@ pub struct Domain {
 }
 
 impl Domain {
-    // How many digits the column has.
+    // How many digits the column has; a blank beside 65,536 values would be the last of 65,537.
     // Refused: one digit only; one digit too few.
     pub fn size(self) -> u32
-        ensures { λ r. ⌜ r ≡ sizeC (columnOf self) ⌝ }
+        ensures { λ r. ⌜ (r ≡ sizeC (columnOf self)) × (r ≤ 65537) ⌝ }
     {
         integer::distance(self.lo, self.hi) + 1
     }

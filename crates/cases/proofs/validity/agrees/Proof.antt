@@ -9,10 +9,10 @@ use Rattle.cases.proofs.validity.agrees.Statement.{statement}
 use Rattle.cases.proofs.validity.agrees.Tie as tie
 
 abbrev Inv-loop : tie.InvT-loop
-Inv-loop bytes at count work child i parent j next₀ p₀ next p = (p ≤ count) × PairsFrom bytes at count work child i parent j next p
+Inv-loop frame work i j count child parent next₀ p₀ next p = (p ≤ count) × PairsFrom frame next₀ count work child i parent j next p
 
 abbrev μ-loop : tie.MeasureT-loop
-μ-loop bytes at count work child i parent j next₀ p₀ next p = count - p
+μ-loop frame work i j count child parent next₀ p₀ next p = count - p
 
 loop-holds : tie.Need-loop-holds Inv-loop μ-loop
 loop-holds c = (omega arith, pairs-first _ _ _ _ _ _ _ _)
@@ -35,8 +35,14 @@ byte-at-requires-2 c κs = search needs
 cast-b : tie.Need-cast-b Inv-loop μ-loop
 cast-b c = search needs
 
+cast-cell : tie.Need-cast-cell Inv-loop μ-loop
+cast-cell c = search needs
+
 cell-requires : tie.Need-cell-requires Inv-loop μ-loop
 cell-requires c κs = search needs
+
+cast-cell-2 : tie.Need-cast-cell-2 Inv-loop μ-loop
+cast-cell-2 c = search needs
 
 cell-requires-2 : tie.Need-cell-requires-2 Inv-loop μ-loop
 cell-requires-2 c κs = search needs
@@ -82,7 +88,9 @@ agrees-spec =
     add-byte-at
     byte-at-requires-2
     cast-b
+    cast-cell
     cell-requires
+    cast-cell-2
     cell-requires-2
     same-requires
     returns-2

@@ -8,31 +8,25 @@ use Rattle.cases.proofs.validity.foreign_key_holds.Statement.{statement
 use Rattle.cases.proofs.validity.foreign_key_holds.Tie as tie
 
 abbrev Inv-loop : tie.InvT-loop
-Inv-loop frame counts work child parent count children parents i₀ i = (i ≤ children) × ParentsTo frame counts work i
+Inv-loop frame counts work key children parents i₀ i = (i ≤ children) × ParentsTo frame counts work i
 
 abbrev μ-loop : tie.MeasureT-loop
-μ-loop frame counts work child parent count children parents i₀ i = children - i
+μ-loop frame counts work key children parents i₀ i = children - i
 
-byte-at-requires : tie.Need-byte-at-requires Inv-loop μ-loop
-byte-at-requires c κs = search needs
-
-byte-at-requires-2 : tie.Need-byte-at-requires-2 Inv-loop μ-loop
-byte-at-requires-2 c κs = search needs
-
-byte-at-requires-3 : tie.Need-byte-at-requires-3 Inv-loop μ-loop
-byte-at-requires-3 c κs = search needs
+key-parts-requires : tie.Need-key-parts-requires Inv-loop μ-loop
+key-parts-requires c κs = search needs
 
 cast-byte-at : tie.Need-cast-byte-at Inv-loop μ-loop
 cast-byte-at c = search needs
 
-byte-at-requires-4 : tie.Need-byte-at-requires-4 Inv-loop μ-loop
-byte-at-requires-4 c κs = search needs
+byte-at-requires : tie.Need-byte-at-requires Inv-loop μ-loop
+byte-at-requires c κs = search needs
 
 cast-byte-at-2 : tie.Need-cast-byte-at-2 Inv-loop μ-loop
 cast-byte-at-2 c = search needs
 
-byte-at-requires-5 : tie.Need-byte-at-requires-5 Inv-loop μ-loop
-byte-at-requires-5 c κs = search needs
+byte-at-requires-2 : tie.Need-byte-at-requires-2 Inv-loop μ-loop
+byte-at-requires-2 c κs = search needs
 
 loop-holds : tie.Need-loop-holds Inv-loop μ-loop
 loop-holds c = (omega arith, parents-none _ _ _)
@@ -41,9 +35,8 @@ has-parent-requires : tie.Need-has-parent-requires Inv-loop μ-loop
 has-parent-requires c κs = search needs
 
 returns : tie.Need-returns Inv-loop μ-loop
-returns c = parents-stop _ _ _ (c .before .before .before .before .before .before .before .before .byte-at .ensures) (c .before .before .before .before .before .before .before .byte-at2 .ensures)
-    (c .before .before .before .before .before .before .byte-at3 .ensures) (c .before .before .before .before .before .byte-at4 .ensures) (c .before .before .before .before .byte-at5 .ensures)
-    (c .before .before .loop-test .taken) (c .before .has-parent .ensures) (not-true _ (c .if1 .taken))
+returns c = parents-stop _ _ _ (c .before .before .before .before .before .before .before .before .key-parts .ensures) (c .before .before .before .before .before .before .byte-at .ensures)
+    (c .before .before .before .before .byte-at2 .ensures) (c .before .before .loop-test .taken) (c .before .has-parent .ensures) (not-true _ (c .if1 .taken))
 
 add-i : tie.Need-add-i Inv-loop μ-loop
 add-i c = search needs
@@ -54,14 +47,13 @@ loop-less c = omega arith
 loop-again : tie.Need-loop-again Inv-loop μ-loop
 loop-again c = (
   omega arith,
-  parents-more _ _ _ (c .before .before .before .before .before .before .before .before .byte-at .ensures)
-      (c .before .before .before .before .before .before .before .byte-at2 .ensures) (c .before .before .before .before .before .before .byte-at3 .ensures)
-      (c .before .before .before .before .before .byte-at4 .ensures) (c .before .before .before .before .byte-at5 .ensures) (c .before .before .before .loop .inv .1) (c .before .has-parent .ensures) (not-false _ (c .if1 .left)),
+  parents-more _ _ _ (c .before .before .before .before .before .before .before .before .key-parts .ensures) (c .before .before .before .before .before .before .byte-at .ensures)
+      (c .before .before .before .before .byte-at2 .ensures) (c .before .before .before .loop .inv .1) (c .before .has-parent .ensures) (not-false _ (c .if1 .left)),
 )
 
 returns-2 : tie.Need-returns-2 Inv-loop μ-loop
-returns-2 c = parents-whole _ _ _ (c .before .before .before .before .before .before .byte-at .ensures) (c .before .before .before .before .before .byte-at2 .ensures)
-    (c .before .before .before .before .byte-at3 .ensures) (c .before .before .before .byte-at4 .ensures) (c .before .before .byte-at5 .ensures) (omega arith) (c .before .loop .inv .1)
+returns-2 c = parents-whole _ _ _ (c .before .before .before .before .before .before .key-parts .ensures) (c .before .before .before .before .byte-at .ensures) (c .before .before .byte-at2 .ensures) (omega arith)
+    (c .before .loop .inv .1)
 
 pub foreign-key-holds-spec : {M : Type 1} → statement M
 foreign-key-holds-spec =
@@ -69,13 +61,11 @@ foreign-key-holds-spec =
     (tie.spec
     Inv-loop
     μ-loop
-    byte-at-requires
-    byte-at-requires-2
-    byte-at-requires-3
+    key-parts-requires
     cast-byte-at
-    byte-at-requires-4
+    byte-at-requires
     cast-byte-at-2
-    byte-at-requires-5
+    byte-at-requires-2
     loop-holds
     has-parent-requires
     returns

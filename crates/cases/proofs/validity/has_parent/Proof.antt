@@ -7,10 +7,10 @@ use Rattle.cases.proofs.validity.has_parent.Statement.{statement}
 use Rattle.cases.proofs.validity.has_parent.Tie as tie
 
 abbrev Inv-loop : tie.InvT-loop
-Inv-loop bytes at count work child i parent rows j₀ j = (j ≤ rows) × NoParent bytes at count work child i parent j
+Inv-loop frame key work i rows j₀ j = (j ≤ rows) × NoParent frame (key .pairs) (key .count) work (key .child) i (key .parent) j
 
 abbrev μ-loop : tie.MeasureT-loop
-μ-loop bytes at count work child i parent rows j₀ j = rows - j
+μ-loop frame key work i rows j₀ j = rows - j
 
 loop-holds : tie.Need-loop-holds Inv-loop μ-loop
 loop-holds c = (omega arith, parent-none _ _ _ _ _ _ _)

@@ -3,11 +3,12 @@ use Prim.Native.Nat.{_≤_}
 use native.Mathlib.Nat.{mul-le-mul}
 use native.Mathlib.Omega.{arith}
 use borrow.Author.Needs.{needs}
+use Rattle.checker.specs.CandidateCount.{tooMany}
 use Rattle.checker.proofs.entries.capped.Statement.{statement}
 use Rattle.checker.proofs.entries.capped.Tie as tie
 
 mul-p : tie.Need-mul-p
-mul-p c = let a : c .args .n ≤ 16777217 = omega arith in
+mul-p c = let a : c .args .n ≤ tooMany = omega arith in
     let b : c .args .m ≤ 4294967295 = omega arith in
     omega (arith, mul-le-mul a b)
 

@@ -47,7 +47,7 @@ loop-again c = (
   omega arith,
   row-turn (c .before .before .before .before .before .before .before .args .shape .now) (c .before .before .before .before .before .before .before .args .ends .now)
       (c .before .before .before .before .before .before .before .args .t) (c .before .before .before .before .loop .c) (c .before .before .before .before .before .width-of .result) (c .before .before .before .before .loop .p)
-      (c .capped .result) (omega arith) (c .capped .ensures ∙ ap (λ s. min (c .before .before .before .before .loop .p * s) tooMany) (c .before .size .ensures ∙ ap size (c .before .before .domain-of .ensures)))
+      (c .capped .result) (omega arith) (c .capped .ensures ∙ ap (λ s. min (c .before .before .before .before .loop .p * s) tooMany) (c .before .size .ensures .0 ∙ ap size (c .before .before .domain-of .ensures)))
       ∙ c .before .before .before .before .loop .inv .2,
 )
 

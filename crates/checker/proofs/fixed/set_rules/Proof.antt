@@ -1,36 +1,33 @@
 -- `checker::fixed::set_rules` meets its contract. Assumes nothing.
-use mathlib.Core.Path.{_≡_}
-use mathlib.Core.Bool.{true, false}
-use Prim.Native.Nat.{ℕ, _≤_, _<_, min}
-use native.Mathlib.Omega.{arith}
-use lib.Dec.{leb}
-use borrow.Author.Tests.{eq-eqb, ne-eqb, le-leb, lt-leb}
-use Rattle.checker.specs.FixedFaults.{setRules}
+use Rattle.checker.proofs.FixedAnswers.{rules-unequal, rules-small, rules-large}
 use borrow.Author.Needs.{needs}
 use Rattle.checker.proofs.fixed.set_rules.Statement.{statement}
 use Rattle.checker.proofs.fixed.set_rules.Tie as tie
 
--- whether at most 64 is told by the number that is at most 255
-small-bound : (x : ℕ) {n : ℕ} → n ≡ min x 255 → n ≤ 64 → leb x 64 ≡ true
-small-bound x e h = le-leb x 64 (omega arith)
+width-of-requires : tie.Need-width-of-requires
+width-of-requires c κs = search needs
 
-large-bound : (x : ℕ) {n : ℕ} → n ≡ min x 255 → 64 < n → leb x 64 ≡ false
-large-bound x e h = lt-leb x 64 (omega arith)
+width-of-requires-2 : tie.Need-width-of-requires-2
+width-of-requires-2 c κs = search needs
 
 returns : tie.Need-returns
-unfolding setRules
-returns c = rw (ne-eqb _ _ (c .if1 .taken))
+returns c = rules-unequal _ (c .before .before .before .before .args .shape .now) (c .before .before .before .before .args .i) (c .before .before .before .before .args .j) (c .before .before .width-of .ensures)
+    (c .before .width-of2 .ensures) (c .if1 .taken)
 
 set-bound-requires : tie.Need-set-bound-requires
 set-bound-requires c κs = search needs
 
 returns-2 : tie.Need-returns-2
-unfolding setRules
-returns-2 c = rw (eq-eqb _ _ (c .before .before .if1 .left), small-bound _ (c .before .set-bound .ensures) (c .if2 .taken))
+returns-2 c = rules-small _ (c .before .before .before .before .before .before .args .shape .now) (c .before .before .before .before .before .before .args .i)
+    (c .before .before .before .before .before .before .args .j) (c .before .before .before .before .width-of .ensures) (c .before .before .before .width-of2 .ensures) (c .before .before .if1 .left)
+    (c .before .set-bound .ensures) (c .if2 .taken)
 
 returns-3 : tie.Need-returns-3
-unfolding setRules
-returns-3 c = rw (eq-eqb _ _ (c .before .before .if1 .left), large-bound _ (c .before .set-bound .ensures) (c .if2 .left))
+returns-3 c = rules-large _ (c .before .before .before .before .before .before .args .shape .now) (c .before .before .before .before .before .before .args .i)
+    (c .before .before .before .before .before .before .args .j) (c .before .before .before .before .width-of .ensures) (c .before .before .before .width-of2 .ensures) (c .before .before .if1 .left)
+    (c .before .set-bound .ensures) (c .if2 .left)
 
 pub set-rules-spec : {M : Type 1} → statement M
-set-rules-spec = tie.close (tie.spec returns set-bound-requires returns-2 returns-3)
+set-rules-spec =
+    tie.close
+    (tie.spec width-of-requires width-of-requires-2 returns set-bound-requires returns-2 returns-3)

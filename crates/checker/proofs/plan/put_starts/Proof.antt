@@ -16,11 +16,11 @@ abbrev μ-loop : tie.MeasureT-loop
 loop-holds : tie.Need-loop-holds Inv-loop μ-loop
 loop-holds c = (omega arith, starts-none _ _ _ _)
 
-frame-of-requires : tie.Need-frame-of-requires Inv-loop μ-loop
-frame-of-requires c κs = omega arith
+frame-number-requires : tie.Need-frame-number-requires Inv-loop μ-loop
+frame-number-requires c κs = omega arith
 
-start-of-requires : tie.Need-start-of-requires Inv-loop μ-loop
-start-of-requires c κs = c .frame-of .ensures .1
+place-behind-requires : tie.Need-place-behind-requires Inv-loop μ-loop
+place-behind-requires c κs = c .frame-number .ensures .1
 
 put-start-requires : tie.Need-put-start-requires Inv-loop μ-loop
 put-start-requires c κs = search needs
@@ -35,7 +35,7 @@ loop-again : tie.Need-loop-again Inv-loop μ-loop
 loop-again c = (
   omega arith,
   starts-more _ _ _ _ _ _ _ _ _ (omega arith) (c .before .before .before .before .before .before .before .loop .inv .1)
-      (c .before .before .before .before .before .frame-of .ensures .0) (c .before .before .before .before .start-of .ensures) (c .before .before .put-start .ensures),
+      (c .before .before .before .before .before .frame-number .ensures .0) (c .before .before .before .before .place-behind .ensures) (c .before .before .put-start .ensures),
 )
 
 same-length : tie.Need-same-length Inv-loop μ-loop
@@ -51,8 +51,8 @@ put-starts-spec =
     Inv-loop
     μ-loop
     loop-holds
-    frame-of-requires
-    start-of-requires
+    frame-number-requires
+    place-behind-requires
     put-start-requires
     add-r
     loop-less

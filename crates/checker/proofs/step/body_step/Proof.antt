@@ -11,11 +11,11 @@ table-step-requires c κs = search needs
 key-step-requires : tie.Need-key-step-requires
 key-step-requires c κs = search needs
 
-basic-step-requires : tie.Need-basic-step-requires
-basic-step-requires c κs = search needs
+view-step-requires : tie.Need-view-step-requires
+view-step-requires c κs = search needs
 
-grouped-step-requires : tie.Need-grouped-step-requires
-grouped-step-requires c κs = search needs
+view-step-requires-2 : tie.Need-view-step-requires-2
+view-step-requires-2 c κs = search needs
 
 set-step-requires : tie.Need-set-step-requires
 set-step-requires c κs = search needs
@@ -51,7 +51,7 @@ same-length-6 : tie.Need-same-length-6
 same-length-6 c = search needs
 
 returns-3 : tie.Need-returns-3
-returns-3 c = turned-same (c .before .before .before .before .before .before .match .keys3) (c .before .before .before .basic-step .ensures)
+returns-3 c = turned-same (c .before .before .before .before .before .before .match .keys3) (c .before .before .before .view-step .ensures)
 
 same-length-7 : tie.Need-same-length-7
 same-length-7 c = search needs
@@ -60,7 +60,7 @@ same-length-8 : tie.Need-same-length-8
 same-length-8 c = search needs
 
 returns-4 : tie.Need-returns-4
-returns-4 c = turned-same (c .before .before .before .before .before .before .match .keys4) (c .before .before .before .grouped-step .ensures)
+returns-4 c = turned-same (c .before .before .before .before .before .before .match .keys4) (c .before .before .before .view-step2 .ensures)
 
 same-length-9 : tie.Need-same-length-9
 same-length-9 c = search needs
@@ -95,8 +95,8 @@ body-step-spec =
     (tie.spec
     table-step-requires
     key-step-requires
-    basic-step-requires
-    grouped-step-requires
+    view-step-requires
+    view-step-requires-2
     set-step-requires
     set-step-requires-2
     goal-step-requires

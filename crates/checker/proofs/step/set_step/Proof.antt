@@ -1,6 +1,6 @@
 -- `checker::step::set_step` meets its contract. Assumes nothing.
-use borrow.Author.Needs.{needs}
 use Rattle.checker.proofs.KindLaws.{set-refused, set-done}
+use borrow.Author.Needs.{needs}
 use Rattle.checker.proofs.step.set_step.Statement.{statement}
 use Rattle.checker.proofs.step.set_step.Tie as tie
 
@@ -13,11 +13,8 @@ same-length c = search needs
 returns : tie.Need-returns
 returns c = set-refused _ (c .before .set-fault .ensures) (c .if1 .taken)
 
-byte-at-requires : tie.Need-byte-at-requires
-byte-at-requires c κs = search needs
-
-byte-at-requires-2 : tie.Need-byte-at-requires-2
-byte-at-requires-2 c κs = search needs
+set-parts-requires : tie.Need-set-parts-requires
+set-parts-requires c κs = search needs
 
 enter-set-requires : tie.Need-enter-set-requires
 enter-set-requires c κs = search needs
@@ -32,9 +29,8 @@ same-length-3 : tie.Need-same-length-3
 same-length-3 c = search needs
 
 returns-2 : tie.Need-returns-2
-returns-2 c = set-done _ (c .before .before .before .before .before .before .before .before .before .before .set-fault .ensures) (c .before .before .before .before .before .before .before .before .before .if1 .left)
-    (c .before .before .before .before .before .before .before .before .byte-at .ensures) (c .before .before .before .before .before .before .before .byte-at2 .ensures) (c .before .before .before .before .enter-set .ensures)
-    (c .with-view .ensures)
+returns-2 c = set-done _ (c .before .before .before .before .before .before .before .before .before .set-fault .ensures) (c .before .before .before .before .before .before .before .before .if1 .left)
+    (c .before .before .before .before .before .before .before .set-parts .ensures) (c .before .before .before .before .enter-set .ensures) (c .with-view .ensures)
 
 pub set-step-spec : {M : Type 1} → statement M
 set-step-spec =
@@ -43,8 +39,7 @@ set-step-spec =
     set-fault-requires
     same-length
     returns
-    byte-at-requires
-    byte-at-requires-2
+    set-parts-requires
     enter-set-requires
     with-view-requires
     same-length-2

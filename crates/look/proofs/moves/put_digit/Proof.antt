@@ -16,7 +16,7 @@ cast-size : tie.Need-cast-size
 cast-size c = search needs
 
 returns : tie.Need-returns
-returns c = none-put (columnOf (c .before .before .domain-of .result)) (c .before .before .domain-of .ensures) (sym (c .before .size .ensures) ∙ c .if1 .taken)
+returns c = none-put (columnOf (c .before .before .domain-of .result)) (c .before .before .domain-of .ensures) (sym (c .before .size .ensures .0) ∙ c .if1 .taken)
 
 rem-digit : tie.Need-rem-digit
 rem-digit c = search needs
@@ -52,7 +52,7 @@ returns-2 : tie.Need-returns-2
 returns-2 c =
     digit-put (columnOf (c .before .before .before .before .before .before .before .before .before .domain-of .result))
     (c .before .before .before .before .before .before .before .before .before .domain-of .ensures) (c .before .before .before .before .before .before .before .before .size .result)
-    (valueOf (c .before .before .before .before .digit .result)) (c .before .before .before .before .before .before .before .before .size .ensures) (c .before .before .before .before .digit .ensures)
+    (valueOf (c .before .before .before .before .digit .result)) (c .before .before .before .before .before .before .before .before .size .ensures .0) (c .before .before .before .before .digit .ensures)
     (c .before .before .before .put-cell .ensures)
 
 pub put-digit-spec : {M : Type 1} → statement M

@@ -1,12 +1,12 @@
--- `checker::plan::start_of` meets its contract. Assumes nothing.
+-- `checker::plan::place_behind` meets its contract. Assumes nothing.
 use mathlib.Core.Path.{_≡_, refl, _∙_}
 use Prim.Native.Nat.{_+_, _*_, _≤_}
 use native.Mathlib.Omega.{arith}
 use borrow.Author.Needs.{needs}
 use Rattle.checker.specs.Plans.{startFrom}
 use Rattle.checker.proofs.WalkLaws.{start-turn, start-end}
-use Rattle.checker.proofs.plan.start_of.Statement.{statement}
-use Rattle.checker.proofs.plan.start_of.Tie as tie
+use Rattle.checker.proofs.plan.place_behind.Statement.{statement}
+use Rattle.checker.proofs.plan.place_behind.Tie as tie
 
 abbrev Inv-loop : tie.InvT-loop
 Inv-loop bytes n at₀ left₀ at left = (at + 256 * left ≤ 256 * n) × (startFrom bytes at left ≡ startFrom bytes 0 n)
@@ -39,13 +39,17 @@ loop-less : tie.Need-loop-less Inv-loop μ-loop
 loop-less c = search needs
 
 loop-again : tie.Need-loop-again Inv-loop μ-loop
-loop-again c = (omega arith, rw (c .byte-at .ensures) (start-turn (c .before .before .before .before .args .bytes .now) (c .before .before .loop .at) (c .before .before .loop .left) (omega arith) ∙ c .before .before .loop .inv .1))
+loop-again c = (
+  omega arith,
+  rw (c .byte-at .ensures) (start-turn (c .before .before .before .before .args .bytes .now) (c .before .before .loop .at) (c .before .before .loop .left)
+      (omega arith) ∙ c .before .before .loop .inv .1),
+)
 
 returns : tie.Need-returns Inv-loop μ-loop
 returns c = start-end (c .before .before .before .args .bytes .now) (c .before .loop .at) (c .before .loop .left) (omega arith) ∙ c .before .loop .inv .1
 
-pub start-of-spec : {M : Type 1} → statement M
-start-of-spec =
+pub place-behind-spec : {M : Type 1} → statement M
+place-behind-spec =
     tie.close
     (tie.spec
     Inv-loop
