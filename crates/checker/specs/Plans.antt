@@ -74,8 +74,3 @@ Plans (Outcome.accepted F) p = PlanOf F p
 pub record Concludes (bytes : List ℕ) (s : Progress) (shape : List ℕ) (ends : List ℤ) (p : Plan) : Type 0 where
   pub concludes : (text : List ℕ) (fs : List (List ℕ)) (r : Frames) (w : Walked) → framesOf text ≡ Lines.frames fs → Holds fs r → r .bytes ≡ bytes
       → WalkedTo (reach fs empty 1) w shape ends → w .number ≡ 0 → w .state ≡ s → Plans (fileOf text) p
-
--- the plan of a text whose frames are packed in the first `used` of these bytes
-pub record ReadsFrames (bytes : List ℕ) (used : ℕ) (p : Plan) : Type 0 where
-  pub reads : (text : List ℕ) (fs : List (List ℕ)) (r : Frames) → framesOf text ≡ Lines.frames fs → Holds fs r → r .bytes ≡ bytes → r .used ≡ used
-      → Plans (fileOf text) p
