@@ -37,7 +37,7 @@ use Rattle.catalog.specs.declared.plan.Plan.{Plan}
 use Rattle.catalog.proofs.FileLaws.{table-schema, tables-in, schema-kept}
 use Rattle.checker.specs.CandidateCount.{tooMany, CandidatesOf}
 use Rattle.checker.specs.Standing.{DraftIn, startProgress}
-use Rattle.checker.specs.Plans.{WalkedTo, Walks, startFrom, frameNumber, PlanFrom, Plans, Concludes}
+use Rattle.checker.specs.Plans.{WalkedTo, Walks, startFrom, frameNumber, PlanFrom, Plans, PlansWhole}
 use Rattle.checker.specs.declared.plan.Walked.{Walked}
 use Rattle.checker.specs.declared.state.Progress.{Progress}
 use Rattle.checker.proofs.EntryLaws.{none-entered}
@@ -194,22 +194,22 @@ pub held-start : DraftIn empty startProgress (replicate 128 0) (replicate 256 (p
 held-start = record { counts = counts-empty; catalogued = none-entered (replicate 128 0) (replicate 256 (pos 0)) refl refl (λ k. getD-all 128 k 0); fits = fits-empty }
 
 module _ (bytes : List ℕ) {s : Progress} (shape : List ℕ) (ends : List ℤ) (p : Plan) where
-  pub concludes-without-goal : (s .stage ≡ 5 → ⊥) → (p .number ≡ 3) × (p .line ≡ 0) → Concludes bytes s shape ends p
-  concludes-without-goal nz a = record {
-    concludes = λ text fs r w e h b t z q. plan-without-goal text r fs e h w shape ends t z p (λ x. nz (ap (λ (y : Progress). y .stage) (sym q) ∙ x)) (a .0) (a .1);
+  pub whole-without-goal : (s .stage ≡ 5 → ⊥) → (p .number ≡ 3) × (p .line ≡ 0) → PlansWhole bytes s shape ends p
+  whole-without-goal nz a = record {
+    plans = λ text fs r w e h b t z q. plan-without-goal text r fs e h w shape ends t z p (λ x. nz (ap (λ (y : Progress). y .stage) (sym q) ∙ x)) (a .0) (a .1);
   }
 
   module _ {n : ℕ} (five : s .stage ≡ 5) (c : CandidatesOf shape ends (s .tables) n) where
-    pub concludes-too-large : n ≡ tooMany → (p .number ≡ 10) × (p .line ≡ 0) → Concludes bytes s shape ends p
-    concludes-too-large big a = record {
-      concludes = λ text fs r w e h b t z q.
+    pub whole-too-large : n ≡ tooMany → (p .number ≡ 10) × (p .line ≡ 0) → PlansWhole bytes s shape ends p
+    whole-too-large big a = record {
+      plans = λ text fs r w e h b t z q.
           plan-too-large text r fs e h w shape ends t z n p (ap (λ (y : Progress). y .stage) q ∙ five)
           (subst (λ (y : Progress). CandidatesOf shape ends (y .tables) n) (sym q) c) big (a .0) (a .1);
     }
 
-    pub concludes-done : (n ≡ tooMany → ⊥) → PlanFrom bytes s shape ends n p → Concludes bytes s shape ends p
-    concludes-done small P = record {
-      concludes = λ text fs r w e h b t z q.
+    pub whole-done : (n ≡ tooMany → ⊥) → PlanFrom bytes s shape ends n p → PlansWhole bytes s shape ends p
+    whole-done small P = record {
+      plans = λ text fs r w e h b t z q.
           plan-done text r fs e h w shape ends t z n p (subst₂ (λ (x : List ℕ) (y : Progress). PlanFrom x y shape ends n p) (sym b) (sym q) P)
           (ap (λ (y : Progress). y .stage) q ∙ five) (subst (λ (y : Progress). CandidatesOf shape ends (y .tables) n) (sym q) c) small;
     }
@@ -229,5 +229,5 @@ module _ (text : List ℕ) (r : Frames) (dec : Decoded (framesOf text) r) (z : r
     pub way-stopped : (w .number ≡ 0 → ⊥) → (p .number ≡ w .number) × (p .line ≡ w .line) → Plans (fileOf text) p
     way-stopped nz a = let (fs, e, h) = accepted text r dec z in plan-stopped text r fs e h w shape ends (k .walked fs (h .packed) held-start) p nz (a .0) (a .1)
 
-    pub way-concluded : w .number ≡ 0 → Concludes (r .bytes) (w .state) shape ends p → Plans (fileOf text) p
-    way-concluded y c = let (fs, e, h) = accepted text r dec z in c .concludes text fs r w e h refl (k .walked fs (h .packed) held-start) y refl
+    pub way-whole : w .number ≡ 0 → PlansWhole (r .bytes) (w .state) shape ends p → Plans (fileOf text) p
+    way-whole y c = let (fs, e, h) = accepted text r dec z in c .plans text fs r w e h refl (k .walked fs (h .packed) held-start) y refl

@@ -14,7 +14,7 @@ ghost use mathlib.Core.Path.{_≡_};
 ghost use Prim.Native.Nat.{_≤_};
 ghost use lib.ListN.{length};
 ghost use Rattle.language.specs.FileOf.{fileOf};
-ghost use Rattle.checker.specs.Plans.{Walks, startFrom, frameNumber, StartsPut, OutlineFrom, PlanFrom, Plans, Concludes};
+ghost use Rattle.checker.specs.Plans.{Walks, startFrom, frameNumber, StartsPut, OutlineFrom, PlanFrom, Plans, PlansWhole};
 
 // How far the frames are taken.
 struct Walked {
@@ -160,8 +160,8 @@ fn refusal(number: u8, line: u16) -> Plan
 }
 
 // The plan of a file whose frames were all walked without fault, or its refusal where it has no goal or too many candidates.
-fn conclude(bytes: [u8; text::ROOM], s: Progress, shape: [u8; 128], ends: [i32; 256]) -> Plan
-    ensures { λ p. ⌜ Concludes bytes s shape ends p ⌝ }
+fn plan_whole(bytes: [u8; text::ROOM], s: Progress, shape: [u8; 128], ends: [i32; 256]) -> Plan
+    ensures { λ p. ⌜ PlansWhole bytes s shape ends p ⌝ }
 {
     if s.stage != 5 {
         return refusal(3, 0);
@@ -191,5 +191,5 @@ pub fn check(text: &[u8]) -> Plan
         return refusal(walked.number, walked.line);
     }
     let s = walked.state;
-    conclude(bytes, s, shape, ends)
+    plan_whole(bytes, s, shape, ends)
 }

@@ -1,6 +1,6 @@
 -- `checker::plan::check` meets its contract. Assumes nothing.
 use Rattle.text.proofs.Callers.{refused-as}
-use Rattle.checker.proofs.PlanLaws.{plan-refused, used-inside, used-taken, used-small, way-stopped, way-concluded}
+use Rattle.checker.proofs.PlanLaws.{plan-refused, used-inside, used-taken, used-small, way-stopped, way-whole}
 use borrow.Author.Needs.{needs}
 use Rattle.checker.proofs.plan.check.Statement.{statement}
 use Rattle.checker.proofs.plan.check.Tie as tie
@@ -41,15 +41,15 @@ returns-2 c = way-stopped (c .before .before .before .before .before .before .be
     (c .before .before .before .before .before .before .before .before .before .before .before .before .decode .ensures) (c .before .before .before .before .before .before .before .before .before .before .if1 .left) _
     (c .before .before .before .before .before .walk .ensures) (c .before .if2 .taken) (c .refusal2 .ensures)
 
-conclude-requires : tie.Need-conclude-requires
-conclude-requires c κs = search needs
+plan-whole-requires : tie.Need-plan-whole-requires
+plan-whole-requires c κs = search needs
 
 returns-3 : tie.Need-returns-3
-returns-3 c = way-concluded (c .before .before .before .before .before .before .before .before .before .before .before .before .before .before .before .args .text .now)
+returns-3 c = way-whole (c .before .before .before .before .before .before .before .before .before .before .before .before .before .before .before .args .text .now)
     (c .before .before .before .before .before .before .before .before .before .before .before .before .before .decode .result)
     (c .before .before .before .before .before .before .before .before .before .before .before .before .before .decode .ensures)
     (c .before .before .before .before .before .before .before .before .before .before .before .if1 .left) _ (c .before .before .before .before .before .before .walk .ensures) (c .before .before .if2 .left)
-    (c .conclude .ensures)
+    (c .plan-whole .ensures)
 
 pub check-spec : {M : Type 1} → statement M
 check-spec =
@@ -65,5 +65,5 @@ check-spec =
     walk-requires
     refusal-requires-2
     returns-2
-    conclude-requires
+    plan-whole-requires
     returns-3)
