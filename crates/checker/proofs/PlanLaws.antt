@@ -9,7 +9,7 @@ use Prim.Native.Nat.{ℕ, _≤_, _<_, min}
 use native.Mathlib.Omega.{arith}
 use lib.Dec.{leb}
 use lib.IntN.{ℤ, pos}
-use lib.ListN.{length, take, drop, replicate, length-take, take-append-drop}
+use lib.ListN.{length, take, drop, replicate, take-append-drop}
 use borrow.Author.Tests.{le-leb, lt-leb}
 use Rattle.value.specs.Bag.{All}
 use Rattle.value.proofs.Places.{getD-all}
@@ -18,7 +18,7 @@ use Rattle.text.specs.Text.{framesOf, Lines}
 use Rattle.text.specs.Answers.{pack, Holds, Decoded}
 use Rattle.text.specs.declared.Frames.{Frames}
 use Rattle.text.proofs.Laws.{only-such}
-use Rattle.text.proofs.Callers.{accepted, used-fits}
+use Rattle.text.proofs.Callers.{accepted, used-fits, used-length}
 use Rattle.meaning.specs.Syntax.{Table, ForeignKey, View, Goal}
 use Rattle.meaning.specs.Bounds.{Schema}
 use Rattle.meaning.specs.Candidates.{candidates}
@@ -37,7 +37,7 @@ use Rattle.catalog.specs.declared.plan.Plan.{Plan}
 use Rattle.catalog.proofs.FileLaws.{table-schema, tables-in, schema-kept}
 use Rattle.checker.specs.CandidateCount.{tooMany, CandidatesOf}
 use Rattle.checker.specs.Standing.{DraftIn, startProgress}
-use Rattle.checker.specs.Plans.{WalkedTo, Walks, startFrom, frameNumber, PlanFrom, Plans, Concludes, ReadsFrames}
+use Rattle.checker.specs.Plans.{WalkedTo, Walks, startFrom, frameNumber, PlanFrom, Plans, PlansWhole}
 use Rattle.checker.specs.declared.plan.Walked.{Walked}
 use Rattle.checker.specs.declared.state.Progress.{Progress}
 use Rattle.checker.proofs.EntryLaws.{none-entered}
@@ -194,44 +194,40 @@ pub held-start : DraftIn empty startProgress (replicate 128 0) (replicate 256 (p
 held-start = record { counts = counts-empty; catalogued = none-entered (replicate 128 0) (replicate 256 (pos 0)) refl refl (λ k. getD-all 128 k 0); fits = fits-empty }
 
 module _ (bytes : List ℕ) {s : Progress} (shape : List ℕ) (ends : List ℤ) (p : Plan) where
-  pub concludes-without-goal : (s .stage ≡ 5 → ⊥) → (p .number ≡ 3) × (p .line ≡ 0) → Concludes bytes s shape ends p
-  concludes-without-goal nz a = record {
-    concludes = λ text fs r w e h b t z q. plan-without-goal text r fs e h w shape ends t z p (λ x. nz (ap (λ (y : Progress). y .stage) (sym q) ∙ x)) (a .0) (a .1);
+  pub whole-without-goal : (s .stage ≡ 5 → ⊥) → (p .number ≡ 3) × (p .line ≡ 0) → PlansWhole bytes s shape ends p
+  whole-without-goal nz a = record {
+    plans = λ text fs r w e h b t z q. plan-without-goal text r fs e h w shape ends t z p (λ x. nz (ap (λ (y : Progress). y .stage) (sym q) ∙ x)) (a .0) (a .1);
   }
 
   module _ {n : ℕ} (five : s .stage ≡ 5) (c : CandidatesOf shape ends (s .tables) n) where
-    pub concludes-too-large : n ≡ tooMany → (p .number ≡ 10) × (p .line ≡ 0) → Concludes bytes s shape ends p
-    concludes-too-large big a = record {
-      concludes = λ text fs r w e h b t z q.
+    pub whole-too-large : n ≡ tooMany → (p .number ≡ 10) × (p .line ≡ 0) → PlansWhole bytes s shape ends p
+    whole-too-large big a = record {
+      plans = λ text fs r w e h b t z q.
           plan-too-large text r fs e h w shape ends t z n p (ap (λ (y : Progress). y .stage) q ∙ five)
           (subst (λ (y : Progress). CandidatesOf shape ends (y .tables) n) (sym q) c) big (a .0) (a .1);
     }
 
-    pub concludes-done : (n ≡ tooMany → ⊥) → PlanFrom bytes s shape ends n p → Concludes bytes s shape ends p
-    concludes-done small P = record {
-      concludes = λ text fs r w e h b t z q.
+    pub whole-done : (n ≡ tooMany → ⊥) → PlanFrom bytes s shape ends n p → PlansWhole bytes s shape ends p
+    whole-done small P = record {
+      plans = λ text fs r w e h b t z q.
           plan-done text r fs e h w shape ends t z n p (subst₂ (λ (x : List ℕ) (y : Progress). PlanFrom x y shape ends n p) (sym b) (sym q) P)
           (ap (λ (y : Progress). y .stage) q ∙ five) (subst (λ (y : Progress). CandidatesOf shape ends (y .tables) n) (sym q) c) small;
     }
 
--- the bytes in use, of an array of 5,462
-pub used-taken : (bytes : List ℕ) (used : ℕ) → length bytes ≡ 5462 → used ≤ 5462 → used ≡ length (take used bytes)
-used-taken bytes used l h = omega (arith, length-take used bytes)
-
-module _ (bytes : List ℕ) (used : ℕ) {w : Walked} {shape : List ℕ} {ends : List ℤ} (p : Plan)
-    (k : Walks (take used bytes) (replicate 128 0) (replicate 256 (pos 0)) w shape ends) where
-  walked-to : (fs : List (List ℕ)) (r : Frames) → Holds fs r → r .bytes ≡ bytes → r .used ≡ used → WalkedTo (reach fs empty 1) w shape ends
-  walked-to fs r h b u = k .walked fs (ap₂ take (sym u) (sym b) ∙ h .packed) held-start
-
-  pub reads-stopped : (w .number ≡ 0 → ⊥) → (p .number ≡ w .number) × (p .line ≡ w .line) → ReadsFrames bytes used p
-  reads-stopped nz a = record { reads = λ text fs r e h b u. plan-stopped text r fs e h w shape ends (walked-to fs r h b u) p nz (a .0) (a .1) }
-
-  pub reads-whole : w .number ≡ 0 → Concludes bytes (w .state) shape ends p → ReadsFrames bytes used p
-  reads-whole z c = record { reads = λ text fs r e h b u. c .concludes text fs r w e h b (walked-to fs r h b u) z refl }
-
 module _ (text : List ℕ) (r : Frames) (dec : Decoded (framesOf text) r) (z : r .number ≡ 0) where
-  pub used-small : r .used ≤ 5462
-  used-small = let (fs, e, h) = accepted text r dec z in used-fits h
+  pub used-inside : r .used ≤ length (r .bytes)
+  used-inside = let (fs, e, h) = accepted text r dec z in omega (arith, used-fits h, h .wide)
 
-  pub plan-read : (p : Plan) → ReadsFrames (r .bytes) (r .used) p → Plans (fileOf text) p
-  plan-read p k = let (fs, e, h) = accepted text r dec z in k .reads text fs r e h refl refl
+  pub used-taken : r .used ≡ length (take (r .used) (r .bytes))
+  used-taken = let (fs, e, h) = accepted text r dec z in sym (used-length h)
+
+  pub used-small : length (take (r .used) (r .bytes)) ≤ 5462
+  used-small = let (fs, e, h) = accepted text r dec z in omega (arith, used-fits h, used-length h)
+
+  module _ {w : Walked} {shape : List ℕ} {ends : List ℤ} (p : Plan)
+      (k : Walks (take (r .used) (r .bytes)) (replicate 128 0) (replicate 256 (pos 0)) w shape ends) where
+    pub way-stopped : (w .number ≡ 0 → ⊥) → (p .number ≡ w .number) × (p .line ≡ w .line) → Plans (fileOf text) p
+    way-stopped nz a = let (fs, e, h) = accepted text r dec z in plan-stopped text r fs e h w shape ends (k .walked fs (h .packed) held-start) p nz (a .0) (a .1)
+
+    pub way-whole : w .number ≡ 0 → PlansWhole (r .bytes) (w .state) shape ends p → Plans (fileOf text) p
+    way-whole y c = let (fs, e, h) = accepted text r dec z in c .plans text fs r w e h refl (k .walked fs (h .packed) held-start) y refl

@@ -7,13 +7,19 @@ use mathlib.Core.Bool.{true}
 use mathlib.Core.List.{List, [], _∷_}
 use Prim.Native.Nat.{ℕ, _≤_, _<_}
 use native.Mathlib.Omega.{arith}
+use lib.Dec.{eqb}
 use lib.IntN.{ℤ}
 use lib.ListN.{length, getD, drop}
+use borrow.Author.Tests.{eqb-true, eqb-false}
+use Rattle.value.proofs.Decides.{by-test}
 use Rattle.language.specs.Reading.{Read}
+use Rattle.language.specs.Written.{setKind}
 use Rattle.language.specs.Draft.{Draft, Item, added, stageOf, inOrder, hasRoom}
 use Rattle.language.specs.Frames.{frame, wholeFault}
 use Rattle.language.specs.Check.{Checked, checkFrame, readChecked}
 use Rattle.checker.specs.Catalogued.{Catalogued, checkedFault, bodyFault}
+use Rattle.checker.specs.FixedFaults.{setOperation}
+use Rattle.checker.specs.ViewFaults.{ownKind}
 use Rattle.checker.specs.Standing.{Counts, DraftIn, Turned, Stepped, turnFault}
 use Rattle.checker.specs.declared.state.Progress.{Progress}
 use Rattle.checker.specs.declared.step.Step.{Step}
@@ -110,17 +116,37 @@ pub turned-same : {f : List ℕ} {s : Progress} {shape : List ℕ} {ends : List 
     → Turned j f s shape ends shape′ ends′ r → Turned k f s shape ends shape′ ends′ r
 turned-same {f} {s} {shape} {ends} {shape′} {ends′} {r} e t = subst (λ (i : ℕ). Turned i f s shape ends shape′ ends′ r) (sym e) t
 
-seven : (k : ℕ) → 1 ≤ stageOf k → (k ≡ 1 → ⊥) → (k ≡ 2 → ⊥) → (k ≡ 3 → ⊥) → (k ≡ 4 → ⊥) → (k ≡ 5 → ⊥) → (k ≡ 6 → ⊥) → k ≡ 7
-seven = by-kind (λ k. (k ≡ 1 → ⊥) → (k ≡ 2 → ⊥) → (k ≡ 3 → ⊥) → (k ≡ 4 → ⊥) → (k ≡ 5 → ⊥) → (k ≡ 6 → ⊥) → k ≡ 7)
-    (λ a b c d e f. absurd (a refl)) (λ a b c d e f. absurd (b refl)) (λ a b c d e f. absurd (c refl)) (λ a b c d e f. absurd (d refl))
-    (λ a b c d e f. absurd (e refl)) (λ a b c d e f. absurd (f refl)) (λ a b c d e f. refl)
+own-kind : (k : ℕ) → 3 ≤ k → k < 5 → k ≡ ownKind (eqb k 4)
+own-kind k a b = by-test (eqb k 4)
+    (λ t. rw t (eqb-true k 4 t))
+    (λ t. let n = eqb-false k 4 t in let e : k ≡ 3 = omega (arith, n) in rw t e)
+
+set-kind : (k : ℕ) → 5 ≤ k → k < 7 → k ≡ setKind (setOperation (eqb k 5))
+set-kind k a b = by-test (eqb k 5)
+    (λ t. rw t (eqb-true k 5 t))
+    (λ t. let n = eqb-false k 5 t in let e : k ≡ 6 = omega (arith, n) in rw t e)
+
+module _ {f : List ℕ} {s : Progress} {shape : List ℕ} {ends : List ℤ} {shape′ : List ℕ} {ends′ : List ℤ} {r : Step} where
+  pub turned-view : (k : ℕ) → 1 ≤ k → (k ≡ 1 → ⊥) → (k ≡ 2 → ⊥) → k < 5 → Turned (ownKind (eqb k 4)) f s shape ends shape′ ends′ r → Turned k f s shape ends shape′ ends′ r
+  turned-view k a n m b t = turned-same (own-kind k (omega (arith, n, m)) b) t
+
+  pub turned-set : (k : ℕ) → 5 ≤ k → k < 7 → Turned (setKind (setOperation (eqb k 5))) f s shape ends shape′ ends′ r → Turned k f s shape ends shape′ ends′ r
+  turned-set k a b t = turned-same (set-kind k a b) t
+
+-- of the kinds only the goal's is above 6
+seven : (k : ℕ) → 1 ≤ stageOf k → (1 ≤ k → k ≤ 6 → ⊥) → k ≡ 7
+seven = by-kind (λ k. (1 ≤ k → k ≤ 6 → ⊥) → k ≡ 7) (λ n. early 1 n (omega arith) (omega arith)) (λ n. early 2 n (omega arith) (omega arith))
+    (λ n. early 3 n (omega arith) (omega arith)) (λ n. early 4 n (omega arith) (omega arith)) (λ n. early 5 n (omega arith) (omega arith))
+    (λ n. early 6 n (omega arith) (omega arith)) (λ n. refl)
+  where
+    early : (k : ℕ) → (1 ≤ k → k ≤ 6 → ⊥) → 1 ≤ k → k ≤ 6 → k ≡ 7
+    early k n a b = absurd (n a b)
 
 pub turned-other : {f : List ℕ} {s : Progress} {shape : List ℕ} {ends : List ℤ} {shape′ : List ℕ} {ends′ : List ℤ} {r : Step} (k : ℕ)
-    → (k ≡ 1 → ⊥) → (k ≡ 2 → ⊥) → (k ≡ 3 → ⊥) → (k ≡ 4 → ⊥) → (k ≡ 5 → ⊥) → (k ≡ 6 → ⊥)
-    → Turned 7 f s shape ends shape′ ends′ r → Turned k f s shape ends shape′ ends′ r
-turned-other {f} {s} {shape} {ends} {shape′} {ends′} {r} k a b c d e g t = record {
-  fault = λ x h o p. let q = seven k (stage-known x k o) a b c d e g in
+    → (1 ≤ k → k ≤ 6 → ⊥) → Turned 7 f s shape ends shape′ ends′ r → Turned k f s shape ends shape′ ends′ r
+turned-other {f} {s} {shape} {ends} {shape′} {ends′} {r} k a t = record {
+  fault = λ x h o p. let q = seven k (stage-known x k o) a in
       subst (λ (j : ℕ). r .fault ≡ bodyFault x (frame x j) f) (sym q) (t .fault x h (subst (λ (j : ℕ). inOrder x j ≡ true) q o) (subst (λ (j : ℕ). hasRoom x j ≡ true) q p));
-  next = λ x i h o p reads w. let q = seven k (stage-known x k o) a b c d e g in
+  next = λ x i h o p reads w. let q = seven k (stage-known x k o) a in
       t .next x i h (subst (λ (j : ℕ). inOrder x j ≡ true) q o) (subst (λ (j : ℕ). hasRoom x j ≡ true) q p) (subst (λ (j : ℕ). frame x j (drop 1 f) ≡ Read.ok i []) q reads) w;
 }

@@ -32,9 +32,10 @@ use Rattle.bounds.specs.declared.Sized.{Sized}
 use Rattle.bounds.specs.declared.Tested.{Tested}
 use Rattle.bounds.proofs.Parts.{ranged-is}
 use Rattle.language.specs.Draft.{Draft, added, relationCount, schemasOf, width, Item}
-use Rattle.language.specs.Frames.{repeated, field, fromList, placeField, basicFrame, groupedFrame, wholeFault}
+use Rattle.language.specs.Frames.{repeated, field, fromList, placeField, basicFrame, wholeFault}
 use Rattle.checker.specs.Catalogued.{Catalogued}
-use Rattle.checker.specs.ViewRules.{factorAt, productOf, ProductBound, putRanged, viewFault, plainRule, EntryRoom, Selects, RuledAs, Tail, OpeningOf, Rules}
+use Rattle.checker.specs.ViewFaults.{ownFrame}
+use Rattle.checker.specs.ViewRules.{factorAt, productOf, ProductBound, putRanged, viewFault, plainRule, EntryRoom, Selects, RuledAs, Tail, OpeningOf, Rules, RulesFrom}
 use Rattle.checker.specs.declared.view_rules.Ruled.{Ruled}
 use Rattle.checker.specs.declared.view_rules.Opening.{Opening}
 use Rattle.catalog.proofs.ArrayLaws.{put-length, put-next, put-outside, outside-same, outside-more, outside-ranges}
@@ -335,22 +336,31 @@ module _ (frame : List ℕ) (r : ℕ) (shape : List ℕ) (ends ends′ : List �
   abbrev froms : List ℕ
   froms = relationsIn (o .items)
 
-  pub basic-rules : OpeningOf false frame shape ends o → (rule : Rule) → rule ≡ plainRule (o .bound) false
-      → Tail frame (o .filter) (o .parts .width) froms shape ends r rule ends′ a → Rules basicFrame frame r shape ends ends′ a
-  basic-rules O rule re s =
-      let B = basic-ruled frame (o .parts) froms shape ends r ends′ a (o .bound) (o .filter) (O .product) (O .tested) rule re s in
-      record {
-        fault = λ d q c e l h. basic-ruling d c r e l ends′ a q frame (o .parts) froms (O .froms) (O .parts-are) B h .fault;
-        entered = λ d q c e l h. basic-ruling d c r e l ends′ a q frame (o .parts) froms (O .froms) (O .parts-are) B h .entered;
-      }
+  pub basic-rules : (rule : Rule) → rule ≡ plainRule (o .bound) false
+      → Tail frame (o .filter) (o .parts .width) froms shape ends r rule ends′ a → RulesFrom false o frame r shape ends ends′ a
+  basic-rules rule re s = record {
+    rules = λ O.
+        let B = basic-ruled frame (o .parts) froms shape ends r ends′ a (o .bound) (o .filter) (O .product) (O .tested) rule re s in
+        record {
+          fault = λ d q c e l h. basic-ruling d c r e l ends′ a q frame (o .parts) froms (O .froms) (O .parts-are) B h .fault;
+          entered = λ d q c e l h. basic-ruling d c r e l ends′ a q frame (o .parts) froms (O .froms) (O .parts-are) B h .entered;
+        };
+  }
 
-  pub grouped-rules : OpeningOf true frame shape ends o → (places : ℕ) (h′ head : Tested)
+  pub grouped-rules : (places : ℕ) (h′ head : Tested)
       → head ≡ record { next = h′ .next; allowed = o .filter .allowed && h′ .allowed; within = o .filter .within && h′ .within } → drop places frame ≡ drop (o .filter .next) frame
       → TestsC frame (places + 2 * o .parts .groups) froms shape ends (groupedRule (o .bound) places (o .parts .groups)) h′
-      → Tail frame head (o .parts .width) froms shape ends r (groupedRule (o .bound) places (o .parts .groups)) ends′ a → Rules groupedFrame frame r shape ends ends′ a
-  grouped-rules O places h′ head he at u s =
-      let B = grouped-ruled frame (o .parts) froms shape ends r ends′ a (o .bound) (o .filter) (O .product) (O .tested) places h′ head he at u s in
-      record {
-        fault = λ d q c e l h. grouped-ruling d c r e l ends′ a q frame (o .parts) froms (O .froms) (O .parts-are) B (grouped-read d frame q h) .fault;
-        entered = λ d q c e l h. grouped-ruling d c r e l ends′ a q frame (o .parts) froms (O .froms) (O .parts-are) B (grouped-read d frame q h) .entered;
-      }
+      → Tail frame head (o .parts .width) froms shape ends r (groupedRule (o .bound) places (o .parts .groups)) ends′ a → RulesFrom true o frame r shape ends ends′ a
+  grouped-rules places h′ head he at u s = record {
+    rules = λ O.
+        let B = grouped-ruled frame (o .parts) froms shape ends r ends′ a (o .bound) (o .filter) (O .product) (O .tested) places h′ head he at u s in
+        record {
+          fault = λ d q c e l h. grouped-ruling d c r e l ends′ a q frame (o .parts) froms (O .froms) (O .parts-are) B (grouped-read d frame q h) .fault;
+          entered = λ d q c e l h. grouped-ruling d c r e l ends′ a q frame (o .parts) froms (O .froms) (O .parts-are) B (grouped-read d frame q h) .entered;
+        };
+  }
+
+pub rules-of : {frame : List ℕ} {r : ℕ} {shape : List ℕ} {ends ends′ : List ℤ} {a : Ruled} {o : Opening} {grouped b : Bool} → grouped ≡ b → OpeningOf grouped frame shape ends o
+    → RulesFrom b o frame r shape ends ends′ a → Rules (ownFrame grouped) frame r shape ends ends′ a
+rules-of {frame} {r} {shape} {ends} {ends′} {a} {o} e O R =
+    subst (λ (g : Bool). Rules (ownFrame g) frame r shape ends ends′ a) (sym e) (R .rules (subst (λ (g : Bool). OpeningOf g frame shape ends o) e O))

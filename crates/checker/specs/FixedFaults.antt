@@ -18,11 +18,11 @@ use Rattle.catalog.specs.Frames.{columnsStart}
 use Rattle.checker.specs.Faults.{faultAt, first, under, within, fromUnder}
 use Rattle.checker.specs.Catalogued.{Catalogued, bodyFault}
 
+-- ---- 01 table
+
 -- n columns of a table from a place on
 unfoldable pub columnsFault : List ℕ → ℕ → ℕ → ℕ
 columnsFault frame at n = faultAt frame at (repeated n columnField)
-
--- ---- 01 table
 
 -- the numbers of rows and of columns, which is n, and the key mask; 2^4 masks are the most
 unfoldable pub tableHead : List ℕ → ℕ → ℕ

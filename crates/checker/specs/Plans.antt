@@ -71,11 +71,6 @@ Plans (Outcome.refused n line) p = (p .number ≡ n) × (p .line ≡ line) × (n
 Plans (Outcome.accepted F) p = PlanOf F p
 
 -- the plan of a text whose frames, packed in these bytes, were all walked without fault
-pub record Concludes (bytes : List ℕ) (s : Progress) (shape : List ℕ) (ends : List ℤ) (p : Plan) : Type 0 where
-  pub concludes : (text : List ℕ) (fs : List (List ℕ)) (r : Frames) (w : Walked) → framesOf text ≡ Lines.frames fs → Holds fs r → r .bytes ≡ bytes
+pub record PlansWhole (bytes : List ℕ) (s : Progress) (shape : List ℕ) (ends : List ℤ) (p : Plan) : Type 0 where
+  pub plans : (text : List ℕ) (fs : List (List ℕ)) (r : Frames) (w : Walked) → framesOf text ≡ Lines.frames fs → Holds fs r → r .bytes ≡ bytes
       → WalkedTo (reach fs empty 1) w shape ends → w .number ≡ 0 → w .state ≡ s → Plans (fileOf text) p
-
--- the plan of a text whose frames are packed in the first `used` of these bytes
-pub record ReadsFrames (bytes : List ℕ) (used : ℕ) (p : Plan) : Type 0 where
-  pub reads : (text : List ℕ) (fs : List (List ℕ)) (r : Frames) → framesOf text ≡ Lines.frames fs → Holds fs r → r .bytes ≡ bytes → r .used ≡ used
-      → Plans (fileOf text) p

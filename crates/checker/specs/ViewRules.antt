@@ -23,6 +23,7 @@ use Rattle.bounds.specs.declared.Tested.{Tested}
 use Rattle.language.specs.Draft.{Draft, Item, added, relationCount}
 use Rattle.language.specs.Frames.{repeated, wholeFault}
 use Rattle.checker.specs.Catalogued.{Catalogued}
+use Rattle.checker.specs.ViewFaults.{ownFrame}
 use Rattle.checker.specs.declared.view_rules.Ruled.{Ruled}
 use Rattle.checker.specs.declared.view_rules.Opening.{Opening}
 
@@ -99,3 +100,7 @@ pub record Rules (reader : Draft → Reader Item) (frame : List ℕ) (r : ℕ) (
       → a .fault ≡ wholeFault d (Item.view q)
   pub entered : (d : Draft) (q : View) → Catalogued d shape ends → r ≡ relationCount d → r < 16 → reader d (drop 1 frame) ≡ Read.ok (Item.view q) []
       → wholeFault d (Item.view q) ≡ 0 → Catalogued (added d (Item.view q)) (putShape shape r 2 (a .width) (a .bound) 0) ends′
+
+-- for a frame that begins so
+pub record RulesFrom (grouped : Bool) (o : Opening) (frame : List ℕ) (r : ℕ) (shape : List ℕ) (ends ends′ : List ℤ) (a : Ruled) : Type 0 where
+  pub rules : OpeningOf grouped frame shape ends o → Rules (ownFrame grouped) frame r shape ends ends′ a

@@ -14,7 +14,7 @@ ghost use mathlib.Core.Path.{_≡_};
 ghost use Prim.Native.Nat.{_≤_};
 ghost use lib.ListN.{length};
 ghost use Rattle.language.specs.FileOf.{fileOf};
-ghost use Rattle.checker.specs.Plans.{Walks, startFrom, frameNumber, StartsPut, OutlineFrom, PlanFrom, Plans, Concludes, ReadsFrames};
+ghost use Rattle.checker.specs.Plans.{Walks, startFrom, frameNumber, StartsPut, OutlineFrom, PlanFrom, Plans, PlansWhole};
 
 // How far the frames are taken.
 struct Walked {
@@ -160,8 +160,8 @@ fn refusal(number: u8, line: u16) -> Plan
 }
 
 // The plan of a file whose frames were all walked without fault, or its refusal where it has no goal or too many candidates.
-fn conclude(bytes: [u8; text::ROOM], s: Progress, shape: [u8; 128], ends: [i32; 256]) -> Plan
-    ensures { λ p. ⌜ Concludes bytes s shape ends p ⌝ }
+fn plan_whole(bytes: [u8; text::ROOM], s: Progress, shape: [u8; 128], ends: [i32; 256]) -> Plan
+    ensures { λ p. ⌜ PlansWhole bytes s shape ends p ⌝ }
 {
     if s.stage != 5 {
         return refusal(3, 0);
@@ -173,23 +173,8 @@ fn conclude(bytes: [u8; text::ROOM], s: Progress, shape: [u8; 128], ends: [i32; 
     plan_from(bytes, s, shape, ends, n)
 }
 
-// The plan of the file whose packed frames stand in the first `used` bytes, or its refusal.
-fn read_frames(bytes: [u8; text::ROOM], used: usize) -> Plan
-    requires { ⌜ used ≤ 5462 ⌝ }
-    ensures { λ p. ⌜ ReadsFrames bytes used p ⌝ }
-{
-    let mut shape = [0u8; 128];
-    let mut ends = [0i32; 256];
-    let walked = walk(&bytes[..used], &mut shape, &mut ends);
-    if walked.number != 0 {
-        return refusal(walked.number, walked.line);
-    }
-    let s = walked.state;
-    conclude(bytes, s, shape, ends)
-}
-
 // The plan of the file that a text means, or its refusal by 1 to 10 with its line.
-// Refused: the refusal of a text without its line; the plan of no frames.
+// Refused: the refusal of a text without its line; a frame's refusal without its line.
 pub fn check(text: &[u8]) -> Plan
     ensures { λ r. ⌜ Plans (fileOf (now (text .entry))) r ⌝ }
 {
@@ -198,5 +183,13 @@ pub fn check(text: &[u8]) -> Plan
         return refusal(frames.number, frames.line);
     }
     let bytes = frames.bytes;
-    read_frames(bytes, frames.used)
+    let used = frames.used;
+    let mut shape = [0u8; 128];
+    let mut ends = [0i32; 256];
+    let walked = walk(&bytes[..used], &mut shape, &mut ends);
+    if walked.number != 0 {
+        return refusal(walked.number, walked.line);
+    }
+    let s = walked.state;
+    plan_whole(bytes, s, shape, ends)
 }

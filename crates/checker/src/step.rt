@@ -103,10 +103,8 @@ fn body_step(kind: u8, frame: &[u8], shape: &mut [u8], ends: &mut [i32], s: Prog
     match kind {
         1 => table_step(frame, shape, ends, s),
         2 => key_step(frame, shape, ends, s),
-        3 => view_step(false, frame, shape, ends, s),
-        4 => view_step(true, frame, shape, ends, s),
-        5 => set_step(true, frame, shape, ends, s),
-        6 => set_step(false, frame, shape, ends, s),
+        3 | 4 => view_step(kind == 4, frame, shape, ends, s),
+        5 | 6 => set_step(kind == 5, frame, shape, ends, s),
         _ => goal_step(frame, shape, ends, s),
     }
 }

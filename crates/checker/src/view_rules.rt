@@ -10,13 +10,12 @@ use catalog::items::from_items;
 use catalog::items::relation;
 use range::Ranged;
 ghost use mathlib.Core.Path.{_≡_};
-ghost use mathlib.Core.Bool.{true, _&&_};
+ghost use mathlib.Core.Bool.{true, false, _&&_};
 ghost use Prim.Native.Nat.{_≤_};
 ghost use lib.ListN.{length, drop};
 ghost use Rattle.catalog.specs.Items.{relationsIn};
 ghost use Rattle.bounds.specs.Walk.{isWithin, TestsC};
-ghost use Rattle.language.specs.Frames.{basicFrame, groupedFrame};
-ghost use Rattle.checker.specs.ViewRules.{putRanged, factorAt, viewFault, plainRule, ProductBound, Selects, Tail, OpeningOf, Rules};
+ghost use Rattle.checker.specs.ViewRules.{putRanged, factorAt, viewFault, plainRule, ProductBound, Selects, Tail, OpeningOf, Rules, RulesFrom};
 ghost use Rattle.checker.specs.ViewFaults.{ownFrame};
 
 // The fault of a view's frame that its bytes leave open, 0 for none; its row bound and its number of columns.
@@ -205,11 +204,10 @@ fn opening_of(frame: &[u8], shape: &[u8], ends: &[i32], grouped: bool) -> Openin
     }
 }
 
-// The rules on the whole frame of a basic view, and the ranges of its columns.
-fn basic_rules(frame: &[u8], shape: &[u8], ends: &mut [i32], r: u8) -> Ruled
-    ensures { λ a. ⌜ Rules basicFrame (now (frame .entry)) r (now (shape .entry)) (now (ends .entry)) (now (ends .exit)) a ⌝ }
+// The rules on the whole frame of a basic view that begins so, and the ranges of its columns.
+fn basic_rules(frame: &[u8], o: Opening, shape: &[u8], ends: &mut [i32], r: u8) -> Ruled
+    ensures { λ a. ⌜ RulesFrom false o (now (frame .entry)) r (now (shape .entry)) (now (ends .entry)) (now (ends .exit)) a ⌝ }
 {
-    let o = opening_of(frame, shape, ends, false);
     let items = o.items;
     let parts = o.parts;
     let filter = o.filter;
@@ -222,10 +220,9 @@ fn basic_rules(frame: &[u8], shape: &[u8], ends: &mut [i32], r: u8) -> Ruled
 }
 
 // The same of an aggregate view.
-fn grouped_rules(frame: &[u8], shape: &[u8], ends: &mut [i32], r: u8) -> Ruled
-    ensures { λ a. ⌜ Rules groupedFrame (now (frame .entry)) r (now (shape .entry)) (now (ends .entry)) (now (ends .exit)) a ⌝ }
+fn grouped_rules(frame: &[u8], o: Opening, shape: &[u8], ends: &mut [i32], r: u8) -> Ruled
+    ensures { λ a. ⌜ RulesFrom true o (now (frame .entry)) r (now (shape .entry)) (now (ends .entry)) (now (ends .exit)) a ⌝ }
 {
-    let o = opening_of(frame, shape, ends, true);
     let items = o.items;
     let parts = o.parts;
     let filter = o.filter;
@@ -251,8 +248,9 @@ fn grouped_rules(frame: &[u8], shape: &[u8], ends: &mut [i32], r: u8) -> Ruled
 pub fn rules(frame: &[u8], shape: &[u8], ends: &mut [i32], r: u8, grouped: bool) -> Ruled
     ensures { λ a. ⌜ Rules (ownFrame grouped) (now (frame .entry)) r (now (shape .entry)) (now (ends .entry)) (now (ends .exit)) a ⌝ }
 {
+    let o = opening_of(frame, shape, ends, grouped);
     if grouped {
-        return grouped_rules(frame, shape, ends, r);
+        return grouped_rules(frame, o, shape, ends, r);
     }
-    basic_rules(frame, shape, ends, r)
+    basic_rules(frame, o, shape, ends, r)
 }

@@ -1,7 +1,8 @@
 -- `checker::step::body_step` meets its contract. Assumes nothing.
+use mathlib.Core.Logic.{⊎-elim}
 use native.Mathlib.Omega.{arith}
+use Rattle.checker.proofs.StepLaws.{turned-same, turned-view, turned-set, turned-other}
 use borrow.Author.Needs.{needs}
-use Rattle.checker.proofs.StepLaws.{turned-same, turned-other}
 use Rattle.checker.proofs.step.body_step.Statement.{statement}
 use Rattle.checker.proofs.step.body_step.Tie as tie
 
@@ -14,14 +15,8 @@ key-step-requires c κs = search needs
 view-step-requires : tie.Need-view-step-requires
 view-step-requires c κs = search needs
 
-view-step-requires-2 : tie.Need-view-step-requires-2
-view-step-requires-2 c κs = search needs
-
 set-step-requires : tie.Need-set-step-requires
 set-step-requires c κs = search needs
-
-set-step-requires-2 : tie.Need-set-step-requires-2
-set-step-requires-2 c κs = search needs
 
 goal-step-requires : tie.Need-goal-step-requires
 goal-step-requires c κs = search needs
@@ -51,7 +46,8 @@ same-length-6 : tie.Need-same-length-6
 same-length-6 c = search needs
 
 returns-3 : tie.Need-returns-3
-returns-3 c = turned-same (c .before .before .before .before .before .before .match .keys3) (c .before .before .before .view-step .ensures)
+returns-3 c = turned-view _ (c .before .before .before .before .before .before .before .if1 .left) (c .before .before .before .before .before .before .before .before .match .rest .0 .1)
+    (c .before .before .before .before .before .before .before .before .match .rest .1) (c .before .before .before .before .before .before .if2 .taken) (c .before .before .before .view-step .ensures)
 
 same-length-7 : tie.Need-same-length-7
 same-length-7 c = search needs
@@ -60,7 +56,7 @@ same-length-8 : tie.Need-same-length-8
 same-length-8 c = search needs
 
 returns-4 : tie.Need-returns-4
-returns-4 c = turned-same (c .before .before .before .before .before .before .match .keys4) (c .before .before .before .view-step2 .ensures)
+returns-4 c = turned-set _ (c .before .before .before .before .before .before .before .if2 .left) (c .before .before .before .before .before .before .if3 .taken) (c .before .before .before .set-step .ensures)
 
 same-length-9 : tie.Need-same-length-9
 same-length-9 c = search needs
@@ -69,25 +65,7 @@ same-length-10 : tie.Need-same-length-10
 same-length-10 c = search needs
 
 returns-5 : tie.Need-returns-5
-returns-5 c = turned-same (c .before .before .before .before .before .before .match .keys5) (c .before .before .before .set-step .ensures)
-
-same-length-11 : tie.Need-same-length-11
-same-length-11 c = search needs
-
-same-length-12 : tie.Need-same-length-12
-same-length-12 c = search needs
-
-returns-6 : tie.Need-returns-6
-returns-6 c = turned-same (c .before .before .before .before .before .before .match .keys6) (c .before .before .before .set-step2 .ensures)
-
-same-length-13 : tie.Need-same-length-13
-same-length-13 c = search needs
-
-same-length-14 : tie.Need-same-length-14
-same-length-14 c = search needs
-
-returns-7 : tie.Need-returns-7
-returns-7 c = turned-other _ (λ e. omega arith) (λ e. omega arith) (λ e. omega arith) (λ e. omega arith) (λ e. omega arith) (λ e. omega arith) (c .goal-step .ensures)
+returns-5 c = ⊎-elim (λ u. turned-other _ (λ a b. omega (arith, u .taken)) (c .goal-step .ensures)) (λ u. turned-other _ (λ a b. omega (arith, u .2 .left)) (c .goal-step .ensures)) (c .before .before .before .if1 .came)
 
 pub body-step-spec : {M : Type 1} → statement M
 body-step-spec =
@@ -96,9 +74,7 @@ body-step-spec =
     table-step-requires
     key-step-requires
     view-step-requires
-    view-step-requires-2
     set-step-requires
-    set-step-requires-2
     goal-step-requires
     same-length
     same-length-2
@@ -114,10 +90,4 @@ body-step-spec =
     returns-4
     same-length-9
     same-length-10
-    returns-5
-    same-length-11
-    same-length-12
-    returns-6
-    same-length-13
-    same-length-14
-    returns-7)
+    returns-5)

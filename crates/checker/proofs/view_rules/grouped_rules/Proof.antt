@@ -4,9 +4,6 @@ use borrow.Author.Needs.{needs}
 use Rattle.checker.proofs.view_rules.grouped_rules.Statement.{statement}
 use Rattle.checker.proofs.view_rules.grouped_rules.Tie as tie
 
-opening-of-requires : tie.Need-opening-of-requires
-opening-of-requires c κs = search needs
-
 inside-requires : tie.Need-inside-requires
 inside-requires c κs = search needs
 
@@ -32,12 +29,11 @@ same-length : tie.Need-same-length
 same-length c = search needs
 
 returns : tie.Need-returns
-returns c = grouped-rules (c .before .before .before .before .before .before .before .before .before .before .before .before .before .before .before .args .frame .now)
-    (c .before .before .before .before .before .before .before .before .before .before .before .before .before .before .before .args .r)
-    (c .before .before .before .before .before .before .before .before .before .before .before .before .before .before .before .args .shape .now)
-    (c .before .before .before .before .before .before .before .before .before .before .before .before .before .before .before .args .ends .now) _ _
-    (c .before .before .before .before .before .before .before .before .before .before .before .opening-of .result)
-    (c .before .before .before .before .before .before .before .before .before .before .before .opening-of .ensures) (c .before .before .before .before .before .before .before .inside .result)
+returns c = grouped-rules (c .before .before .before .before .before .before .before .before .before .before .before .before .before .args .frame .now)
+    (c .before .before .before .before .before .before .before .before .before .before .before .before .before .args .r)
+    (c .before .before .before .before .before .before .before .before .before .before .before .before .before .args .shape .now)
+    (c .before .before .before .before .before .before .before .before .before .before .before .before .before .args .ends .now) _ _
+    (c .before .before .before .before .before .before .before .before .before .before .before .before .before .args .o) (c .before .before .before .before .before .before .before .inside .result)
     (c .before .before .before .before .condition .result) (c .before .before .before .both .result)
     (c .before .before .before .both .ensures) (c .before .before .before .before .before .before .before .inside .ensures .1) (c .before .before .before .before .condition .ensures) (c .before .tail .ensures)
 
@@ -45,7 +41,6 @@ pub grouped-rules-spec : {M : Type 1} → statement M
 grouped-rules-spec =
     tie.close
     (tie.spec
-    opening-of-requires
     inside-requires
     cast-having
     mul-having
