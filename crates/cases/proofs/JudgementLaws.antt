@@ -27,11 +27,11 @@ use Rattle.catalog.proofs.FileLaws.{width-is, columns-are}
 use Rattle.store.specs.Rows.{rowsIn}
 use Rattle.store.proofs.RowLaws.{rows-length}
 use Rattle.views.proofs.Copying.{apart-same}
+use Rattle.views.proofs.Rooms.{positive}
 use Rattle.cases.specs.Needs.{Needed, Asked}
 use Rattle.cases.specs.Relations.{columnsOf, ViewRows, IsRefuted}
 use Rattle.cases.specs.Validity.{IsValid}
 use Rattle.cases.specs.Judgement.{Memory, memoryFrom, SignNoted, RowsNoted, Known, Ready, TablesKept, Evaluates, IsWanted, IsCase}
-use Rattle.cases.proofs.SignLaws.{positive}
 use Rattle.cases.proofs.FlagLaws.{no-flag}
 use Rattle.cases.proofs.Turns.{turn-known}
 

@@ -19,7 +19,7 @@ use Rattle.catalog.proofs.FileLaws.{rows-are}
 use Rattle.cases.specs.TablesIn.{TablesIn}
 use Rattle.cases.specs.Needs.{Flag, flagOf, Needed, Asked, Asks, AllSet, GoalIn, Covers}
 use Rattle.cases.specs.Judgement.{Memory, TablesKept}
-use Rattle.cases.proofs.SignLaws.{names-before}
+use Rattle.cases.proofs.ViewLaws.{names-before}
 use Rattle.cases.proofs.FileLaws.{view-legal, before-length}
 
 -- ---- numbers of rows

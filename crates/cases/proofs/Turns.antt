@@ -37,7 +37,8 @@ use Rattle.store.specs.Rows.{rowsIn}
 use Rattle.cases.specs.Needs.{Needed, Asked, Asks, Covers}
 use Rattle.cases.specs.Relations.{columnsOf, OperandsIn, SignsIn}
 use Rattle.cases.specs.Judgement.{Memory, memoryFrom, SignNoted, RowsNoted, Known}
-use Rattle.cases.proofs.SignLaws.{names-before, operands-kept}
+use Rattle.cases.proofs.ViewLaws.{names-before}
+use Rattle.cases.proofs.SignLaws.{operands-kept}
 use Rattle.cases.proofs.FileLaws.{relation-small, view-legal, before-length, before-schema, own-schema}
 
 -- relation v, behind the tables, is a view

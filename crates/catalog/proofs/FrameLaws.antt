@@ -4,13 +4,14 @@ use mathlib.Core.Bool.{Bool, true, false}
 use mathlib.Core.List.{List, _∷_, _++_}
 use Prim.Native.Nat.{ℕ, _+_, _-_, _≤_, _<_, min}
 use native.Mathlib.Omega.{arith}
+use lib.Dec.{eqb}
 use lib.ListN.{length, getD, take, drop, length-drop, length-take, drop-of-length-le}
 use lib.Seq.{take-all, take-at, take-nil, drop-at, drop-drop}
 use borrow.Author.Tests.{lt-ltb, le-ltb}
 use Rattle.value.proofs.Places.{byte-here}
 use Rattle.meaning.proofs.Stacks.{by-lt}
 use Rattle.text.specs.Answers.{pack}
-use Rattle.catalog.specs.Frames.{frameAt, fromsIn, namesIn, partsAfter}
+use Rattle.catalog.specs.Frames.{frameAt, fromsIn, namesIn, partsAfter, partsIn}
 use Rattle.catalog.specs.declared.frames.Parts.{Parts}
 
 -- a part whose start and end are kept within the bytes
@@ -63,6 +64,11 @@ froms-are frame n e = ap (λ i. take i (drop 2 frame)) e
 pub names-set : (frame : List ℕ) (k : ℕ) → k ≡ getD frame 0 0 → 4 < k → take 2 (drop 1 frame) ≡ namesIn frame
 unfolding namesIn
 names-set frame k e h = rw (le-ltb (getD frame 0 0) 5 (omega arith))
+
+-- the parts of a view whose kind is known
+pub parts-own : (frame : List ℕ) (grouped : Bool) → eqb (getD frame 0 0) 4 ≡ grouped → partsAfter grouped (getD frame 1 0) frame ≡ partsIn frame
+unfolding partsIn
+parts-own frame grouped e = rw e
 
 pub names-own : (frame : List ℕ) (k : ℕ) → k ≡ getD frame 0 0 → k ≤ 4 → fromsIn frame ≡ namesIn frame
 unfolding namesIn

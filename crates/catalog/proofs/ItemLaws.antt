@@ -1,7 +1,7 @@
 -- The bytes from a place on, and the from items. Assumes nothing.
 use mathlib.Core.Path.{_≡_, refl, sym, ap, _∙_}
-use mathlib.Core.List.{List, [], _∷_, map}
-use Prim.Native.Nat.{ℕ, zero, suc, _+_, _≤_, _<_, min}
+use mathlib.Core.List.{List, [], _∷_}
+use Prim.Native.Nat.{ℕ, zero, suc, _+_, _≤_, _<_}
 use native.Mathlib.Omega.{arith}
 use lib.ListN.{length, getD, List·getD-eq-default, length-map}
 use Rattle.meaning.proofs.ListSteps.{map-at}
@@ -19,6 +19,13 @@ unfolding bytesAt
 bytes-there bytes at zero i h = absurd (omega arith)
 bytes-there bytes at (suc n) zero h = ap (λ k. getD bytes k 0) (omega arith)
 bytes-there bytes at (suc n) (suc i) h = bytes-there bytes (at + 1) n i (omega arith) ∙ ap (λ k. getD bytes k 0) (omega arith)
+
+-- the first six, where there is at most one
+pub six-of-one : (names : List ℕ) → length names < 2 → getD names 0 0 ∷ 0 ∷ 0 ∷ 0 ∷ 0 ∷ 0 ∷ [] ≡ bytesAt names 0 6
+unfolding bytesAt
+six-of-one [] h = refl
+six-of-one (a ∷ []) h = refl
+six-of-one (a ∷ b ∷ names) h = absurd (omega arith)
 
 -- as many as there are, of at most six
 pub items-back : (names : List ℕ) → length names ≤ 6 → relationsIn (itemsOf names) ≡ names

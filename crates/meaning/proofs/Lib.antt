@@ -10,6 +10,7 @@ pub mod Stacks
 -- demand 2: views are the algebra's, cases the paper's, and the order of rows does not count
 pub mod WellFormed
 pub mod Alike
+pub mod SameScopes
 pub mod Spread
 pub mod Operations
 pub mod Relations
