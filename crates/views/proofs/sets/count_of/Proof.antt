@@ -35,10 +35,18 @@ loop-less : tie.Need-loop-less Inv-loop μ-loop
 loop-less c = omega arith
 
 loop-again : tie.Need-loop-again Inv-loop μ-loop
-loop-again c = (omega arith, omega (arith, c .before .before .before .loop .inv .1, c .one-if .ensures .1), count-more (c .before .before .before .before .args .work .now) (c .before .before .before .before .args .b) (c .before .before .before .before .args .width) (c .before .before .before .loop .j) _ _ (rowIn (c .before .before .before .before .args .work .now) (c .before .before .before .before .args .a) (c .before .before .before .before .args .width) (c .before .before .before .before .args .i)) (c .before .before .before .loop .inv .2) (c .one-if .ensures .0 ∙ ap (λ t. tick t 0) (c .before .same-rows .ensures)))
+loop-again c = (
+  omega arith,
+  omega (arith, c .before .before .before .loop .inv .1, c .one-if .ensures .1),
+  count-more (c .before .before .before .before .args .work .now)
+      (c .before .before .before .before .args .b) (c .before .before .before .before .args .width) (c .before .before .before .loop .j) _ _ (rowIn (c .before .before .before .before .args .work .now)
+      (c .before .before .before .before .args .a) (c .before .before .before .before .args .width) (c .before .before .before .before .args .i)) (c .before .before .before .loop .inv .2)
+      (c .one-if .ensures .0 ∙ ap (λ t. tick t 0) (c .before .same-rows .ensures)),
+)
 
 returns : tie.Need-returns Inv-loop μ-loop
-returns c = count-whole (c .before .before .args .work .now) (c .before .before .args .b) (c .before .before .args .width) (c .before .before .args .n) (c .before .loop .j) (rowIn (c .before .before .args .work .now) (c .before .before .args .a) (c .before .before .args .width) (c .before .before .args .i)) (c .before .loop .inv .0) (omega arith) (c .before .loop .inv .2)
+returns c = count-whole (c .before .before .args .work .now) (c .before .before .args .b) (c .before .before .args .width) (c .before .before .args .n) (c .before .loop .j) (rowIn
+    (c .before .before .args .work .now) (c .before .before .args .a) (c .before .before .args .width) (c .before .before .args .i)) (c .before .loop .inv .0) (omega arith) (c .before .loop .inv .2)
 
 pub count-of-spec : {M : Type 1} → statement M
 count-of-spec =

@@ -34,7 +34,12 @@ loop-less : tie.Need-loop-less Inv-loop μ-loop
 loop-less c = omega arith
 
 loop-again : tie.Need-loop-again Inv-loop μ-loop
-loop-again c = (search needs, omega arith, shared-more (c .before .before .before .before .before .before .before .before .loop .inv .2) (c .before .before .before .before .before .count-of .ensures) (c .before .before .before .count-of2 .ensures) (c .before .append .ensures))
+loop-again c = (
+  search needs,
+  omega arith,
+  shared-more (c .before .before .before .before .before .before .before .before .loop .inv .2)
+      (c .before .before .before .before .before .count-of .ensures) (c .before .before .before .count-of2 .ensures) (c .before .append .ensures),
+)
 
 same-length : tie.Need-same-length Inv-loop μ-loop
 same-length c = c .before .loop .inv .0

@@ -45,7 +45,11 @@ loop-less : tie.Need-loop-less Inv-loop μ-loop
 loop-less c = omega arith
 
 loop-again : tie.Need-loop-again Inv-loop μ-loop
-loop-again c = (omega arith, alike-more _ _ _ _ _ _ _ _ (c .before .before .before .before .before .loop .inv .1) (c .before .before .before .cell .ensures) (c .before .before .cell2 .ensures) (sym (c .before .same .ensures) ∙ not-false _ (c .if1 .left)))
+loop-again c = (
+  omega arith,
+  alike-more _ _ _ _ _ _ _ _ (c .before .before .before .before .before .loop .inv .1) (c .before .before .before .cell .ensures) (c .before .before .cell2 .ensures) (sym
+      (c .before .same .ensures) ∙ not-false _ (c .if1 .left)),
+)
 
 returns-2 : tie.Need-returns-2 Inv-loop μ-loop
 returns-2 c = alike-whole _ _ _ _ _ _ _ (c .before .loop .inv .0) (omega arith) (c .before .loop .inv .1)
