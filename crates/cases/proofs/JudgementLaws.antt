@@ -109,21 +109,21 @@ module _ {source : Source} {memory : Memory} where
       → {counts₂ : List ℕ} {work₃ : List ℤ} → RowsNoted frame (source .shape) (memory₁ .counts) work₂ v counts₂ work₃
       → Turned source memory (memoryFrom counts₂ signs₂ work₃) (v + 1)
   turned-more {v = v} T l here S N =
-    let own : (r : ℕ) → r ≡ v → ViewIn (source .outline) r = λ r e. (omega (arith, T .first), omega arith) in
-    record {
-    first = omega (arith, T .first);
-    kept = record {
-      counts-size = N .size ∙ T .kept .counts-size;
-      signs-size = S .size ∙ T .kept .signs-size;
-      cells = only-more (T .kept .cells) (only-more (only-wider own (S .apart .only)) (only-wider own (N .apart .only)));
-      counts = λ i h. N .others i (λ e. h (own i e)) ∙ T .kept .counts i h;
-      signs = λ i h. S .others i (λ e. h (own i e)) ∙ T .kept .signs i h;
-    };
-    known = λ G R.
-        let n : v + 1 ≡ suc v = omega arith in
-        rw n (turn-known G (R .covers) (R .shaped) v (T .known G R) (omega (arith, R .whole, T .kept .cells .size)) (T .kept .counts-size ∙ R .counts-size)
-        (T .kept .signs-size ∙ R .signs-size) (omega (arith, T .first, G .tables)) (omega (arith, G .relations)) here S N);
-  }
+      let own : (r : ℕ) → r ≡ v → ViewIn (source .outline) r = λ r e. (omega (arith, T .first), omega arith) in
+      record {
+        first = omega (arith, T .first);
+        kept = record {
+          counts-size = N .size ∙ T .kept .counts-size;
+          signs-size = S .size ∙ T .kept .signs-size;
+          cells = only-more (T .kept .cells) (only-more (only-wider own (S .apart .only)) (only-wider own (N .apart .only)));
+          counts = λ i h. N .others i (λ e. h (own i e)) ∙ T .kept .counts i h;
+          signs = λ i h. S .others i (λ e. h (own i e)) ∙ T .kept .signs i h;
+        };
+        known = λ G R.
+            let n : v + 1 ≡ suc v = omega arith in
+            rw n (turn-known G (R .covers) (R .shaped) v (T .known G R) (omega (arith, R .whole, T .kept .cells .size)) (omega (arith, T .kept .counts-size, R .counts-size))
+            (omega (arith, T .kept .signs-size, R .signs-size)) (omega (arith, T .first, G .tables)) (omega (arith, G .relations)) here S N);
+      }
 
   pub turned-all : {memory₁ : Memory} {v : ℕ} → Turned source memory memory₁ v → source .outline .relations ≤ v → Evaluates source memory memory₁
   turned-all T h = record {

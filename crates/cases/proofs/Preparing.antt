@@ -29,7 +29,7 @@ use Rattle.cases.proofs.FlagLaws.{all-flag}
 -- ---- numbers of rows
 
 pub counts-are : {F : File} {source : Source} {ends : List ℤ} {counts counts′ : List ℕ} → FileIn F source ends
-    → TablesCounted (source .shape) (source .outline .tables) counts counts′ → length counts ≡ 16 → (t : ℕ) → t < length (F .tables) → getD counts′ t 0 ≡ tableAt (F .tables) t .rows
+    → TablesCounted (source .shape) (source .outline .tables) counts counts′ → 16 ≤ length counts → (t : ℕ) → t < length (F .tables) → getD counts′ t 0 ≡ tableAt (F .tables) t .rows
 counts-are {F} G c s t h = c .counted t (omega (arith, G .tables)) (omega (arith, G .legal .relationCount)) ∙ rows-are G t h
 
 -- a table is no view

@@ -61,8 +61,8 @@ pub record Ready (F : File) (g : Goal) (d : Database) (source : Source) (memory 
   pub shaped : Shaped F d
   pub tables : TablesIn F d (memory .counts) (memory .work)
   pub whole : area ≤ length (memory .work)
-  pub counts-size : length (memory .counts) ≡ 16
-  pub signs-size : length (memory .signs) ≡ 16
+  pub counts-size : 16 ≤ length (memory .counts)
+  pub signs-size : 16 ≤ length (memory .signs)
 
 -- relation r is a view by the outline
 abbrev pub ViewIn : Outline → ℕ → Type 0

@@ -72,9 +72,9 @@ abbrev spanOf : Plan → ℕ → ℕ → ℕ → Span
 spanOf p cells start end = record { outline = p .outline; goal = p .goal; cells = cells; start = start; end = end }
 
 -- "no case" and "spent" leave the same
-by-end : (b : Bool) {cells end : ℕ} {work inst work′ : List ℤ} → work′ ≡ zeros work → Leaves (cond b Answer.noCase (Answer.spent end)) cells work inst work′ inst
-by-end true z = (z, refl)
-by-end false z = (z, refl)
+by-end : (b : Bool) (cells end : ℕ) (work inst work′ : List ℤ) → work′ ≡ zeros work → Leaves (cond b Answer.noCase (Answer.spent end)) cells work inst work′ inst
+by-end true cells end work inst work′ z = (z, refl)
+by-end false cells end work inst work′ z = (z, refl)
 
 -- the search of a look that is not refused has come to k
 pub record Sought (p : Plan) (start count : ℕ) (work inst : List ℤ) (end k : ℕ) (work₁ : List ℤ) : Type 0 where
@@ -114,7 +114,8 @@ module _ {p : Plan} {start count : ℕ} {work inst : List ℤ} {end k : ℕ} {wo
   pub finds-none : {work₂ : List ℤ} {r : Answered} → end ≤ k → work₂ ≡ zeros work₁ → Concludes end (p .candidates) r
       → Looked p start count work inst r work₂ inst
   finds-none {work₂} {r} h z R = record {
-    leaves = subst (λ a. Leaves a (cellsBy p) work inst work₂ inst) (sym (R .concludes)) (by-end (eqb end (p .candidates)) (z ∙ zeros-same work₁ work (S .search .only .size)));
+    leaves = subst (λ a. Leaves a (cellsBy p) work inst work₂ inst) (sym (R .concludes))
+        (by-end (eqb end (p .candidates)) (cellsBy p) end work inst work₂ (z ∙ zeros-same work₁ work (S .search .only .size)));
     finds = λ F P whole.
         let w : work₂ ≡ zeros work = z ∙ zeros-same work₁ work (S .search .only .size) in
         let a : answerOf r ≡ cond (eqb end (candidates F)) Answer.noCase (Answer.spent end) =

@@ -71,10 +71,10 @@ pub placed-at : {F : File} {source : Source} {ends : List ℤ} {p : CellPlaces} 
     → Digits F p → TablesCounted (source .shape) (source .outline .tables) (replicate 16 0) counts → area ≤ length work → CandidatePut p k work work₁
     → At F (memoryFrom counts (replicate 16 0) work₁) k
 placed-at {F} G D C whole P = record {
-  counts-size = C .size;
-  signs-size = refl;
+  counts-size = omega (arith, C .size);
+  signs-size = omega arith;
   whole = omega (arith, P .only .size);
-  rows = λ t l. counts-are G C refl t l;
+  rows = λ t l. counts-are G C (omega arith) t l;
   cells = P .placed F D whole;
 }
 
@@ -83,8 +83,8 @@ pub moved-at : {F : File} {source : Source} {ends : List ℤ} {p : CellPlaces} {
     → Digits F p → OnlyViews (source .outline) memory memory₁ → Moved p k next (memory₁ .work) work₂ → At F memory k
     → At F (memoryFrom (memory₁ .counts) (memory₁ .signs) work₂) next
 moved-at {F} G D K M A = record {
-  counts-size = K .counts-size ∙ A .counts-size;
-  signs-size = K .signs-size ∙ A .signs-size;
+  counts-size = omega (arith, K .counts-size, A .counts-size);
+  signs-size = omega (arith, K .signs-size, A .signs-size);
   whole = omega (arith, A .whole, M .only .size, K .cells .size);
   rows = λ t h. count-stays K t (omega (arith, G .tables)) ∙ A .rows t h;
   cells = M .moved F D (omega (arith, A .whole, K .cells .size)) (cells-kept (G .legal) (G .tables) K ∙ A .cells);

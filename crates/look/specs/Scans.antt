@@ -38,8 +38,8 @@ pub record Setting (F : File) (source : Source) (ends : List ℤ) (g : Goal) : T
 
 -- the numbers of the tables' rows and the cells of candidate k stand where they should
 pub record At (F : File) (memory : Memory) (k : ℕ) : Type 0 where
-  pub counts-size : length (memory .counts) ≡ 16
-  pub signs-size : length (memory .signs) ≡ 16
+  pub counts-size : 16 ≤ length (memory .counts)
+  pub signs-size : 16 ≤ length (memory .signs)
   pub whole : area ≤ length (memory .work)
   pub rows : (t : ℕ) → t < length (F .tables) → getD (memory .counts) t 0 ≡ tableAt (F .tables) t .rows
   pub cells : cellsIn (memory .work) (codesOf F) ≡ cellsOf F k
