@@ -21,8 +21,8 @@ pub fn position(relation: usize, row: usize, column: usize) -> usize {
 ///
 /// A refused text gives its number in the upper 16 bits and its line in the lower, and no buffer
 /// changes. Else the answer is 1 for a case and 0 for none, the work area has the rows of every
-/// relation in order, and `counts` begins with their numbers. Said of 16 counts and at least 9,216
-/// numbers of work; shorter buffers are safe, but what they then hold is not said.
+/// relation in order, and `counts` begins with their numbers. Fewer than 16 counts or 9,216 numbers
+/// of work give refusal 11 of line 0, whatever the text.
 pub fn evaluate(text: &[u8], counts: &mut [u8], work: &mut [i32]) -> u32 {
     // The library reads the text, writes within both buffers, and keeps nothing.
     unsafe {

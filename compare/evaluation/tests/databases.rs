@@ -218,14 +218,16 @@ fn random_databases() {
     ]);
 }
 
-/// A refused text leaves buffers of any length as they are; an accepted one is compared.
+/// A refused text leaves buffers of any length as they are, and short buffers are refused first; an
+/// accepted text is compared.
 #[test]
 fn damaged_texts() {
     let mut rng = Rng::new(2);
     let mut tally = Tally::default();
     for seed in 0..2_000 {
         let text = reference::write(&gen::file(1_000_000 + seed));
-        let lengths = (rng.below(20), rng.below(WORK + 100));
+        let lengths = (8 + rng.below(16), WORK - 50 + rng.below(100));
+        let short = lengths.0 < 16 || lengths.1 < WORK;
         let counts = random_counts(&mut rng, lengths.0);
         let work = random_work(&mut rng, lengths.1);
         for k in 0..32 {
@@ -235,10 +237,14 @@ fn damaged_texts() {
                 Err(Refusal { number, line }) => {
                     let (mut counts_after, mut work_after) = (counts.clone(), work.clone());
                     let answer = evaluate(&damaged, &mut counts_after, &mut work_after);
-                    let expected = u32::from(number) << 16 | u32::from(line);
+                    let expected = match short {
+                        true => 11 << 16,
+                        false => u32::from(number) << 16 | u32::from(line),
+                    };
                     assert_eq!(answer, expected, "{:?}", String::from_utf8_lossy(&damaged));
                     assert!(counts_after == counts && work_after == work);
-                    tally.mark(true, &format!("refusal {number}"));
+                    tally.mark(!short, &format!("refusal {number}"));
+                    tally.mark(short, "short buffers");
                 }
             }
         }
@@ -246,19 +252,23 @@ fn damaged_texts() {
     tally.finish(&[1, 2, 3, 4, 5, 6, 7, 8, 9, 10].map(|number| format!("refusal {number}")));
 }
 
-/// Short buffers are not overrun.
+/// Short buffers are refused, and stay as they are.
 #[test]
 fn short_buffers() {
     let mut rng = Rng::new(3);
     for seed in 0..2_000 {
         let text = reference::write(&gen::file(seed));
-        let (few, short) = (rng.below(16), rng.below(WORK));
+        let (few, short) = match seed % 3 {
+            0 => (rng.below(16), WORK),
+            1 => (16, rng.below(WORK)),
+            _ => (rng.below(16), rng.below(WORK)),
+        };
         let counts = random_counts(&mut rng, 16);
         let work = random_work(&mut rng, WORK);
         let (mut counts_after, mut work_after) = (counts.clone(), work.clone());
-        evaluate(&text, &mut counts_after[..few], &mut work_after[..short]);
-        assert_eq!(counts_after[few..], counts[few..]);
-        assert_eq!(work_after[short..], work[short..]);
+        let answer = evaluate(&text, &mut counts_after[..few], &mut work_after[..short]);
+        assert_eq!(answer, 11 << 16);
+        assert!(counts_after == counts && work_after == work);
     }
 }
 

@@ -1,13 +1,14 @@
 -- Flags that are set: one, those of the relations that are named, and those of all. Assumes nothing.
 use mathlib.Core.Path.{_≡_, refl, sym, ap, subst, _∙_}
+use mathlib.Core.Logic.{_⊎_, inl, inr, ⊎-elim}
 use mathlib.Core.Bool.{Bool, true, false, true≢false}
 use mathlib.Core.List.{List, [], _∷_, _++_}
 use Prim.Native.Nat.{ℕ, zero, suc, _+_, _*_, _≤_, _<_}
 use native.Mathlib.Omega.{arith}
-use lib.Dec.{eqb}
+use lib.Dec.{ltb, eqb}
 use lib.ListN.{length, getD, set, take}
-use lib.Seq.{take-suc, take-all, getD-set-same, getD-set-other}
-use borrow.Author.Tests.{eqb-true, eqb-false}
+use lib.Seq.{take-suc, take-all, getD-set-same, getD-set-other, set-out}
+use borrow.Author.Tests.{ltb-true, ltb-false, eqb-true, eqb-false}
 use Rattle.value.specs.Bag.{All}
 use Rattle.value.proofs.Decides.{by-test}
 use Rattle.value.proofs.Values.{all-map}
@@ -20,10 +21,14 @@ use Rattle.cases.specs.Needs.{Flag, flagOf, More, NamesSet, AllSet}
 -- ---- flags only grow
 
 pub more-same : (shape : List ℕ) → More shape shape
-more-same shape = record { first = first-same 6 shape; kept = λ m i f. f }
+more-same shape = record { first = first-same 6 shape; kept = λ m i f. f; byte = λ k. inl refl }
 
 pub more-more : {a b c : List ℕ} → More a b → More b c → More a c
-more-more p q = record { first = first-more (p .first) (q .first); kept = λ m i f. q .kept m i (p .kept m i f) }
+more-more p q = record {
+  first = first-more (p .first) (q .first);
+  kept = λ m i f. q .kept m i (p .kept m i f);
+  byte = λ k. ⊎-elim (λ e. ⊎-elim (λ d. inl (e ∙ d)) (λ d. inr (e ∙ d)) (p .byte k)) (λ e. inr e) (q .byte k);
+}
 
 pub more-all : {m : ℕ} {shape shape′ is : List ℕ} → More shape shape′ → All (Flag m shape) is → All (Flag m shape′) is
 more-all {m} h a = all-map (λ i f. h .kept m i f) a
@@ -51,6 +56,13 @@ inside [] k e = absurd (omega arith)
 inside (x ∷ l) zero e = omega arith
 inside (x ∷ l) (suc k) e = let h = inside l k e in omega arith
 
+-- a number where another one is put
+one-byte : (l : List ℕ) (n x k : ℕ) → (getD (set l n x) k 0 ≡ getD l k 0) ⊎ (getD (set l n x) k 0 ≡ x)
+one-byte l n x k = by-test (eqb k n)
+    (λ t. let e : k ≡ n = eqb-true k n t in
+    by-test (ltb n (length l)) (λ s. inr (rw e (getD-set-same l n x 0 (ltb-true n (length l) s)))) (λ s. inl (rw (set-out l n x (ltb-false n (length l) s)))))
+    (λ t. inl (getD-set-other l n k x 0 (eqb-false k n t)))
+
 more-put : (shape : List ℕ) (i m : ℕ) → 6 ≤ m → m < 8 → More shape (set shape (8 * i + m) 1)
 more-put shape i m h l = record {
   first = first-set 6 shape i m 1 h l;
@@ -59,6 +71,7 @@ more-put shape i m h l = record {
       let was : getD shape (8 * i + m) 0 ≡ 1 = sym (ap (λ k. getD shape k 0) e) ∙ f .on in
       record { on = ap (λ k. getD (set shape (8 * i + m) 1) k 0) e ∙ getD-set-same shape (8 * i + m) 1 0 (inside shape (8 * i + m) was) })
       (λ t. record { on = getD-set-other shape (8 * i + m) (8 * j + n) 1 0 (eqb-false (8 * j + n) (8 * i + m) t) ∙ f .on });
+  byte = λ k. one-byte shape (8 * i + m) 1 k;
 }
 
 -- as the code puts it
@@ -66,8 +79,14 @@ module _ (m : ℕ) (low : 6 ≤ m) (high : m < 8) (shape : List ℕ) {shape′ :
   pub more-set : More shape shape′
   more-set = rw e (more-put shape i m low high)
 
+  flag-there : 8 * i + m < length shape → Flag m shape′ i
+  flag-there h = record { on = ap (λ (l : List ℕ). getD l (8 * i + m) 0) e ∙ getD-set-same shape (8 * i + m) 1 0 h }
+
   pub flag-set : length shape ≡ 128 → i < 16 → Flag m shape′ i
-  flag-set z h = record { on = ap (λ (l : List ℕ). getD l (8 * i + m) 0) e ∙ getD-set-same shape (8 * i + m) 1 0 (omega arith) }
+  flag-set z h = flag-there (omega arith)
+
+  flag-other : (k : ℕ) → (k ≡ 8 * i + m → ⊥) → getD shape′ k 0 ≡ getD shape k 0
+  flag-other k h = ap (λ (l : List ℕ). getD l k 0) e ∙ getD-set-other shape (8 * i + m) k 1 0 h
 
 -- ---- the flags of the relations that are named, one more in each turn
 
@@ -102,24 +121,30 @@ names-all {m} {is} {shape} {shape′} {n} h s = subst (λ (l : List ℕ). NamesS
 -- ---- both flags of the first relations
 
 pub all-none : (shape : List ℕ) → AllSet 0 shape shape
-all-none shape = record { more = more-same shape; flag = λ z a i h. absurd (omega arith) }
+all-none shape = record { more = more-same shape; flag = λ a i h. absurd (omega arith); others = λ k h. refl }
 
 pub all-more : {n : ℕ} {shape shape₁ shape₂ shape₃ : List ℕ} → n < 16 → AllSet n shape shape₁ → shape₂ ≡ setNeeded shape₁ n → shape₃ ≡ setAsked shape₂ n
     → AllSet (n + 1) shape shape₃
 all-more {n} {shape} {shape₁} {shape₂} {shape₃} l s e q =
     let rows : More shape₁ shape₂ = more-set 6 (omega arith) (omega arith) shape₁ n e in
     let signs : More shape₂ shape₃ = more-set 7 (omega arith) (omega arith) shape₂ n q in
-    let here : length shape ≡ 128 → (asked : Bool) → Flag (flagOf asked) shape₃ n = λ z asked. one z asked rows signs in
     record {
       more = more-more (s .more) (more-more rows signs);
-      flag = λ z asked i h. by-lt i n
-          (λ _ k. signs .kept (flagOf asked) i (rows .kept (flagOf asked) i (s .flag z asked i k)))
-          (λ _ k. let j : n ≡ i = omega arith in subst (Flag (flagOf asked) shape₃) j (here z asked));
+      flag = λ asked i h z. by-lt i n
+          (λ _ k. signs .kept (flagOf asked) i (rows .kept (flagOf asked) i (s .flag asked i k z)))
+          (λ _ k. let j : n ≡ i = omega arith in subst (Flag (flagOf asked) shape₃) j (one asked (rw j z) rows signs));
+      others = λ k h.
+          flag-other 7 (omega arith) (omega arith) shape₂ n q k (h true n (omega arith)) ∙ flag-other 6 (omega arith) (omega arith) shape₁ n e k (h false n (omega arith))
+          ∙ s .others k (λ asked i j. h asked i (omega arith));
     }
   where
-    one : length shape ≡ 128 → (asked : Bool) → More shape₁ shape₂ → More shape₂ shape₃ → Flag (flagOf asked) shape₃ n
-    one z true a b = flag-set 7 (omega arith) (omega arith) shape₂ n q (a .first .size ∙ s .more .first .size ∙ z) l
-    one z false a b = b .kept 6 n (flag-set 6 (omega arith) (omega arith) shape₁ n e (s .more .first .size ∙ z) l)
+    one : (asked : Bool) → 8 * n + flagOf asked < length shape → More shape₁ shape₂ → More shape₂ shape₃ → Flag (flagOf asked) shape₃ n
+    one true z a b = flag-there 7 (omega arith) (omega arith) shape₂ n q (omega (arith, a .first .size, s .more .first .size))
+    one false z a b = b .kept 6 n (flag-there 6 (omega arith) (omega arith) shape₁ n e (omega (arith, s .more .first .size)))
 
-pub all-full : {n : ℕ} {shape shape′ : List ℕ} → 16 ≤ n → AllSet n shape shape′ → AllSet 16 shape shape′
-all-full h s = record { more = s .more; flag = λ z a i l. s .flag z a i (omega arith) }
+pub all-full : {n : ℕ} {shape shape′ : List ℕ} → n ≡ 16 → AllSet n shape shape′ → AllSet 16 shape shape′
+all-full e s = rw e at s
+
+-- in an array of 16 relations
+pub all-flag : {shape shape′ : List ℕ} → AllSet 16 shape shape′ → length shape ≡ 128 → (asked : Bool) (i : ℕ) → i < 16 → Flag (flagOf asked) shape′ i
+all-flag s z asked i h = s .flag asked i h (omega (arith, flag-high asked))

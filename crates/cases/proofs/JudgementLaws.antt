@@ -22,16 +22,17 @@ use Rattle.meaning.proofs.Relations.{rows-table}
 use Rattle.catalog.specs.Arrays.{neededAt, askedAt}
 use Rattle.catalog.specs.Frames.{frameIn}
 use Rattle.catalog.specs.FileIn.{Source, FileIn, goalOf}
+use Rattle.catalog.specs.declared.outline.Outline.{Outline}
 use Rattle.catalog.specs.declared.plan.Goal.{Goal as GoalHere}
 use Rattle.catalog.proofs.FileLaws.{width-is, columns-are}
 use Rattle.store.specs.Rows.{rowsIn}
-use Rattle.store.proofs.RowLaws.{rows-length}
+use Rattle.store.proofs.RowLaws.{rows-length, only-same, only-more, only-wider}
 use Rattle.views.proofs.Copying.{apart-same}
 use Rattle.views.proofs.Rooms.{positive}
 use Rattle.cases.specs.Needs.{Needed, Asked}
 use Rattle.cases.specs.Relations.{columnsOf, ViewRows, IsRefuted}
 use Rattle.cases.specs.Validity.{IsValid}
-use Rattle.cases.specs.Judgement.{Memory, memoryFrom, SignNoted, RowsNoted, Known, Ready, TablesKept, Evaluates, IsWanted, IsCase}
+use Rattle.cases.specs.Judgement.{Memory, memoryFrom, SignNoted, RowsNoted, Known, Ready, ViewIn, OnlyViews, Evaluates, IsWanted, IsCase}
 use Rattle.cases.proofs.FlagLaws.{no-flag}
 use Rattle.cases.proofs.Turns.{turn-known}
 
@@ -78,11 +79,11 @@ module _ {frame shape counts : List ℕ} {work : List ℤ} {v : ℕ} where
 -- the views before v are worked out
 pub record Turned (source : Source) (memory memory′ : Memory) (v : ℕ) : Type 0 where
   pub first : source .outline .tables ≤ v
-  pub kept : TablesKept (source .outline .tables) memory memory′
+  pub kept : OnlyViews (source .outline) memory memory′
   pub known : {F : File} {g : Goal} {d : Database} {ends : List ℤ} → FileIn F source ends → Ready F g d source memory → Known F d (source .shape) memory′ v
 
-kept-same : (tables : ℕ) (memory : Memory) → TablesKept tables memory memory
-kept-same tables memory = record { size = refl; counts-size = refl; signs-size = refl; table = λ t w n h. refl; count = λ t h. refl }
+kept-same : (o : Outline) (memory : Memory) → OnlyViews o memory memory
+kept-same o memory = record { counts-size = refl; signs-size = refl; cells = only-same (memory .work); counts = λ i h. refl; signs = λ i h. refl }
 
 -- the tables are known
 tables-known : {F : File} {g : Goal} {d : Database} {source : Source} {ends : List ℤ} {memory : Memory} → FileIn F source ends → Ready F g d source memory
@@ -99,7 +100,7 @@ module _ {source : Source} {memory : Memory} where
   pub turned-none : Turned source memory memory (source .outline .tables)
   turned-none = record {
     first = omega arith;
-    kept = kept-same (source .outline .tables) memory;
+    kept = kept-same (source .outline) memory;
     known = λ G R. tables-known G R (source .outline .tables) (omega (arith, G .tables));
   }
 
@@ -107,21 +108,22 @@ module _ {source : Source} {memory : Memory} where
       → frame ≡ frameIn (source .bytes) (source .shape) v → {signs₂ : List ℕ} {work₂ : List ℤ} → SignNoted frame (source .shape) memory₁ v signs₂ work₂
       → {counts₂ : List ℕ} {work₃ : List ℤ} → RowsNoted frame (source .shape) (memory₁ .counts) work₂ v counts₂ work₃
       → Turned source memory (memoryFrom counts₂ signs₂ work₃) (v + 1)
-  turned-more {v = v} T l here S N = record {
-    first = omega (arith, T .first);
-    kept = record {
-      size = N .apart .size ∙ S .apart .size ∙ T .kept .size;
-      counts-size = N .size ∙ T .kept .counts-size;
-      signs-size = S .size ∙ T .kept .signs-size;
-      table = λ t w n h. let other : t ≡ v → ⊥ = λ e. omega (arith, T .first) in
-          N .apart .others t w n other ∙ S .apart .others t w n other ∙ T .kept .table t w n h;
-      count = λ t h. N .others t (λ e. omega (arith, T .first)) ∙ T .kept .count t h;
-    };
-    known = λ G R.
-        let n : v + 1 ≡ suc v = omega arith in
-        rw n (turn-known G (R .covers) (R .shaped) v (T .known G R) (omega (arith, R .whole, T .kept .size)) (T .kept .counts-size ∙ R .counts-size)
-        (T .kept .signs-size ∙ R .signs-size) (omega (arith, T .first, G .tables)) (omega (arith, G .relations)) here S N);
-  }
+  turned-more {v = v} T l here S N =
+      let own : (r : ℕ) → r ≡ v → ViewIn (source .outline) r = λ r e. (omega (arith, T .first), omega arith) in
+      record {
+        first = omega (arith, T .first);
+        kept = record {
+          counts-size = N .size ∙ T .kept .counts-size;
+          signs-size = S .size ∙ T .kept .signs-size;
+          cells = only-more (T .kept .cells) (only-more (only-wider own (S .apart .only)) (only-wider own (N .apart .only)));
+          counts = λ i h. N .others i (λ e. h (own i e)) ∙ T .kept .counts i h;
+          signs = λ i h. S .others i (λ e. h (own i e)) ∙ T .kept .signs i h;
+        };
+        known = λ G R.
+            let n : v + 1 ≡ suc v = omega arith in
+            rw n (turn-known G (R .covers) (R .shaped) v (T .known G R) (omega (arith, R .whole, T .kept .cells .size)) (omega (arith, T .kept .counts-size, R .counts-size))
+            (omega (arith, T .kept .signs-size, R .signs-size)) (omega (arith, T .first, G .tables)) (omega (arith, G .relations)) here S N);
+      }
 
   pub turned-all : {memory₁ : Memory} {v : ℕ} → Turned source memory memory₁ v → source .outline .relations ≤ v → Evaluates source memory memory₁
   turned-all T h = record {
@@ -138,14 +140,19 @@ module _ {g : GoalHere} {counts signs : List ℕ} where
   pub wanted-sign : g .negative ≡ true → {b : ℕ} → b ≡ getD signs (g .view) 0 → IsWanted g counts signs (eqb b 1)
   wanted-sign n e = record {
     by-rows = λ m. absurd (true≢false (sym n ∙ m));
-    by-sign = λ x m q. ap (λ k. eqb k 1) (e ∙ q) ∙ by-test x (λ t. rw t) (λ t. rw t);
+    by-sign = λ m. ap (λ k. eqb k 1) e;
   }
 
   pub wanted-rows : g .negative ≡ false → {b : ℕ} → b ≡ getD counts (g .view) 0 → IsWanted g counts signs (ltb 0 b)
   wanted-rows n {b} e = record {
     by-rows = λ m. positive b ∙ ap isPos e;
-    by-sign = λ x m q. absurd (true≢false (sym m ∙ n));
+    by-sign = λ m. absurd (true≢false (sym m ∙ n));
   }
+
+-- a sign is 1 or 0
+one-sign : (b : Bool) → eqb (cond b 1 0) 1 ≡ b
+one-sign true = refl
+one-sign false = refl
 
 -- ---- the case
 
@@ -171,13 +178,13 @@ module _ {source : Source} {g : GoalHere} {memory : Memory} where
   -- a database with no rows, or one that is not valid, is no case
   pub case-empty : source .outline .filled ≡ false → IsCase source g memory false memory
   case-empty h = record {
-    kept = kept-same (source .outline .tables) memory;
+    kept = kept-same (source .outline) memory;
     case = λ {F} {d} G R. no-row F (goalOf g) d (filled-rows (R .shaped) ∙ sym (G .filled) ∙ h);
   }
 
   pub case-invalid : {b : Bool} → IsValid source (memory .counts) (memory .work) b → b ≡ false → IsCase source g memory false memory
   case-invalid ok h = record {
-    kept = kept-same (source .outline .tables) memory;
+    kept = kept-same (source .outline) memory;
     case = λ {F} {d} G R. not-valid F (goalOf g) d (sym (ok .is-valid G (R .shaped) (R .tables)) ∙ h);
   }
 
@@ -201,7 +208,7 @@ module _ {source : Source} {g : GoalHere} {memory : Memory} where
           let B = hasRow (rows F d v) in
           by-test (g .negative)
           (λ e. let flag : Asked (source .shape) v = rw e at (R .covers .goal) in
-          X .by-sign A e (K .signs-known v first last flag) ∙ sym (ap (λ b. cond b A B) e))
+          X .by-sign e ∙ ap (λ k. eqb k 1) (K .signs-known v first last flag) ∙ one-sign A ∙ sym (ap (λ b. cond b A B) e))
           (λ e. let flag : Needed (source .shape) v = rw e at (R .covers .goal) in
           let size : n ≡ length (rows F d v) = sym (rows-length (memory′ .work) v (columnsOf (schemas F) v) n) ∙ ap length (K .rows-known v last flag) in
           X .by-rows e ∙ ap isPos size ∙ sym (ap (λ b. cond b A B) e))

@@ -172,7 +172,7 @@ module _ {source : Source} {v : ℕ} {shape shape₁ shape₂ frame : List ℕ} 
 pub needs-all : {source : Source} {g : GoalHere} {v : ℕ} {shape₁ shape : List ℕ} → shape₁ ≡ set (source .shape) (8 * g .view + flagOf (g .negative)) 1
     → v ≤ source .outline .tables → Reached (withFlags source shape₁) v shape → NeedsOf source g shape
 needs-all {source} {g} {v} {shape₁} {shape} e h r = record {
-  first = more-more goal (r .more) .first;
+  more = more-more goal (r .more);
   covers = λ {F} G W.
       let f = r .from (file-kept G (goal .first)) in
       let few : g .view < 16 = omega (arith, W .before, G .legal .relationCount) in

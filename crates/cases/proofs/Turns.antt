@@ -107,8 +107,8 @@ module _ {F : File} {g : Goal} {d : Database} {source : Source} {ends : List ℤ
 
   -- ---- one turn
 
-  module _ (v : ℕ) {memory : Memory} (K : Known F d shape memory v) (whole : area ≤ length (memory .work)) (counts-size : length (memory .counts) ≡ 16)
-      (signs-size : length (memory .signs) ≡ 16) (first : n ≤ v) (last : v < n + length (F .views)) {frame : List ℕ} (here : frame ≡ frameIn (source .bytes) shape v)
+  module _ (v : ℕ) {memory : Memory} (K : Known F d shape memory v) (whole : area ≤ length (memory .work)) (counts-size : 16 ≤ length (memory .counts))
+      (signs-size : 16 ≤ length (memory .signs)) (first : n ≤ v) (last : v < n + length (F .views)) {frame : List ℕ} (here : frame ≡ frameIn (source .bytes) shape v)
       {signs′ counts′ : List ℕ} {work₁ work₂ : List ℤ} (S : SignNoted frame shape memory v signs′ work₁)
       (R : RowsNoted frame shape (memory .counts) work₁ v counts′ work₂) where
     small : v < 16
@@ -120,7 +120,7 @@ module _ {F : File} {g : Goal} {d : Database} {source : Source} {ends : List ℤ
     own-sign : Asked shape v → getD signs′ v 0 ≡ cond (neg v) 1 0
     own-sign f =
         let (q, e) = view-there F v first last in
-        let (r, T, noted) = S .noted f (omega (arith, small)) in
+        let (r, T, noted) = S .noted f (omega (arith, small, signs-size)) in
         let s = signs-in v q e last K whole (C .signs v q e f) in
         noted ∙ ap (λ b. cond b 1 0) (T .refutes q (own-frame q e) n (take v (schemas F)) (M v) neg s ∙ sym (negative-view F d in-order v q (in-d v e)))
 
@@ -131,7 +131,7 @@ module _ {F : File} {g : Goal} {d : Database} {source : Source} {ends : List ℤ
         let widths : (i : ℕ) → i < v → widthAt shape i ≡ columnsOf (take v (schemas F)) i =
         λ i h. width-is G i ∙ sym (ap (λ t. length (t .ranges)) (before-schema L v q e i h)) in
         ap (λ t. rowsIn work₂ v (length (t .ranges)) (getD counts′ v 0)) (sym (own-schema L v q e))
-        ∙ R .noted f (omega (arith, small)) .rows q (own-frame q e) s widths ∙ sym (rows-view F d v q (in-d v e))
+        ∙ R .noted f (omega (arith, small, counts-size)) .rows q (own-frame q e) s widths ∙ sym (rows-view F d v q (in-d v e))
 
     rows-kept : (i w k : ℕ) → (i ≡ v → ⊥) → rowsIn work₂ i w k ≡ rowsIn (memory .work) i w k
     rows-kept i w k h = R .apart .others i w k h ∙ S .apart .others i w k h

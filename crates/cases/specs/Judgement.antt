@@ -3,6 +3,7 @@ use mathlib.Core.Path.{_≡_}
 use mathlib.Core.Bool.{Bool, true, false, cond}
 use mathlib.Core.List.{List}
 use Prim.Native.Nat.{ℕ, suc, _+_, _≤_, _<_}
+use lib.Dec.{eqb}
 use lib.IntN.{ℤ}
 use lib.ListN.{length, getD}
 use Rattle.meaning.specs.Lists.{isPos}
@@ -12,8 +13,9 @@ use Rattle.meaning.specs.Bounds.{schemas}
 use Rattle.meaning.specs.Valid.{Shaped}
 use Rattle.meaning.specs.Decided.{negative, isCase}
 use Rattle.catalog.specs.FileIn.{Source, FileIn, goalOf}
+use Rattle.catalog.specs.declared.outline.Outline.{Outline}
 use Rattle.catalog.specs.declared.plan.Goal.{Goal as GoalHere}
-use Rattle.store.specs.Layout.{area}
+use Rattle.store.specs.Layout.{area, OnlyCells}
 use Rattle.store.specs.Rows.{rowsIn}
 use Rattle.views.specs.Copies.{Apart}
 use Rattle.cases.specs.TablesIn.{TablesIn}
@@ -59,19 +61,24 @@ pub record Ready (F : File) (g : Goal) (d : Database) (source : Source) (memory 
   pub shaped : Shaped F d
   pub tables : TablesIn F d (memory .counts) (memory .work)
   pub whole : area ≤ length (memory .work)
-  pub counts-size : length (memory .counts) ≡ 16
-  pub signs-size : length (memory .signs) ≡ 16
+  pub counts-size : 16 ≤ length (memory .counts)
+  pub signs-size : 16 ≤ length (memory .signs)
 
--- the tables stay, and so do the sizes
-pub record TablesKept (tables : ℕ) (memory memory′ : Memory) : Type 0 where
-  pub size : length (memory′ .work) ≡ length (memory .work)
+-- relation r is a view by the outline
+abbrev pub ViewIn : Outline → ℕ → Type 0
+ViewIn o r = (o .tables ≤ r) × (r < o .relations)
+
+-- the cells of views, their numbers of rows and their signs may change; every other number stays, and so do the sizes. What the cells of a
+-- view hold behind its rows is left open: only as many rows are read as are counted
+pub record OnlyViews (o : Outline) (memory memory′ : Memory) : Type 0 where
   pub counts-size : length (memory′ .counts) ≡ length (memory .counts)
   pub signs-size : length (memory′ .signs) ≡ length (memory .signs)
-  pub table : (t w n : ℕ) → t < tables → rowsIn (memory′ .work) t w n ≡ rowsIn (memory .work) t w n
-  pub count : (t : ℕ) → t < tables → getD (memory′ .counts) t 0 ≡ getD (memory .counts) t 0
+  pub cells : OnlyCells (ViewIn o) (memory .work) (memory′ .work)
+  pub counts : (i : ℕ) → (ViewIn o i → ⊥) → getD (memory′ .counts) i 0 ≡ getD (memory .counts) i 0
+  pub signs : (i : ℕ) → (ViewIn o i → ⊥) → getD (memory′ .signs) i 0 ≡ getD (memory .signs) i 0
 
 pub record Evaluates (source : Source) (memory memory′ : Memory) : Type 0 where
-  pub kept : TablesKept (source .outline .tables) memory memory′
+  pub kept : OnlyViews (source .outline) memory memory′
   pub known : {F : File} {g : Goal} {d : Database} {ends : List ℤ} → FileIn F source ends → Ready F g d source memory
       → Known F d (source .shape) memory′ (length (F .tables) + length (F .views))
 
@@ -79,9 +86,9 @@ pub record Evaluates (source : Source) (memory memory′ : Memory) : Type 0 wher
 
 pub record IsWanted (g : GoalHere) (counts signs : List ℕ) (r : Bool) : Type 0 where
   pub by-rows : g .negative ≡ false → r ≡ isPos (getD counts (g .view) 0)
-  pub by-sign : (b : Bool) → g .negative ≡ true → getD signs (g .view) 0 ≡ cond b 1 0 → r ≡ b
+  pub by-sign : g .negative ≡ true → r ≡ eqb (getD signs (g .view) 0) 1
 
 -- of every legal file and every database of its row counts and value ranges
 pub record IsCase (source : Source) (g : GoalHere) (memory : Memory) (r : Bool) (memory′ : Memory) : Type 0 where
-  pub kept : TablesKept (source .outline .tables) memory memory′
+  pub kept : OnlyViews (source .outline) memory memory′
   pub case : {F : File} {d : Database} {ends : List ℤ} → FileIn F source ends → Ready F (goalOf g) d source memory → r ≡ isCase F (goalOf g) d

@@ -1,5 +1,6 @@
 -- Relations that a goal depends on, by flags in `shape`: 1 is set. Assumes nothing: these are definitions.
 use mathlib.Core.Path.{_≡_}
+use mathlib.Core.Logic.{_⊎_}
 use mathlib.Core.Bool.{Bool, true, false, cond}
 use mathlib.Core.List.{List}
 use mathlib.Core.Option.{some}
@@ -63,6 +64,7 @@ ownConditions (View.set op i j) = false
 pub record More (shape shape′ : List ℕ) : Type 0 where
   pub first : FirstKept 6 shape shape′
   pub kept : (m i : ℕ) → Flag m shape i → Flag m shape′ i
+  pub byte : (k : ℕ) → (getD shape′ k 0 ≡ getD shape k 0) ⊎ (getD shape′ k 0 ≡ 1)
 
 pub record NamesSet (m : ℕ) (is shape shape′ : List ℕ) : Type 0 where
   pub more : More shape shape′
@@ -70,10 +72,11 @@ pub record NamesSet (m : ℕ) (is shape shape′ : List ℕ) : Type 0 where
   -- and none but these
   pub others : (k : ℕ) → All (λ j. k ≡ entry j + m → ⊥) is → getD shape′ k 0 ≡ getD shape k 0
 
--- both flags of the first n relations
+-- both flags of the first n relations, where the array has them, and nothing else
 pub record AllSet (n : ℕ) (shape shape′ : List ℕ) : Type 0 where
   pub more : More shape shape′
-  pub flag : length shape ≡ 128 → (asked : Bool) (i : ℕ) → i < n → Flag (flagOf asked) shape′ i
+  pub flag : (asked : Bool) (i : ℕ) → i < n → entry i + flagOf asked < length shape → Flag (flagOf asked) shape′ i
+  pub others : (k : ℕ) → ((asked : Bool) (i : ℕ) → i < n → k ≡ entry i + flagOf asked → ⊥) → getD shape′ k 0 ≡ getD shape k 0
 
 pub record NeedsRows (frame shape : List ℕ) (v : ℕ) (shape′ : List ℕ) : Type 0 where
   pub more : More shape shape′
@@ -88,7 +91,8 @@ pub record NeedsSigns (frame shape : List ℕ) (v : ℕ) (shape′ : List ℕ) :
       → All (Asked shape′) (names q)
   pub others : (q : View) → frame ≡ viewBytes q → (k : ℕ) → All (λ j. k ≡ entry j + 7 → ⊥) (names q) → getD shape′ k 0 ≡ getD shape k 0
 
--- every byte that is no flag stays, so that the file stays in memory
+-- every byte that is no flag stays, so that the file stays in memory. Which flags are set beside those that the goal depends on is left
+-- open: more of them only add views that are worked out
 pub record NeedsOf (source : Source) (g : GoalHere) (shape′ : List ℕ) : Type 0 where
-  pub first : FirstKept 6 (source .shape) shape′
+  pub more : More (source .shape) shape′
   pub covers : {F : File} {ends : List ℤ} → FileIn F source ends → GoalIn F (goalOf g) → Covers F (goalOf g) shape′

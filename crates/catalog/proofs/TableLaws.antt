@@ -1,6 +1,6 @@
 -- The tables of a file by the arrays: whether some table has a row, and the numbers of rows. Assumes nothing.
 use mathlib.Core.Path.{_≡_, refl, sym, ap, _∙_}
-use mathlib.Core.Bool.{true, false, or-true}
+use mathlib.Core.Bool.{true, false, or-true, true≢false}
 use mathlib.Core.List.{List, [], _∷_, map}
 use Prim.Native.Nat.{ℕ, zero, suc, _+_, _≤_, _<_}
 use native.Mathlib.Omega.{arith}
@@ -50,18 +50,22 @@ bare-more shape n b h e z = record {
 
 pub filled-some : (shape : List ℕ) (tables n b : ℕ) → n < tables → b ≡ boundAt shape n → 0 < b → SomeRow shape tables true
 filled-some shape tables n b h e k = record {
+  has = λ _. (n, h, omega arith);
+  has-none = λ q. absurd (true≢false q);
   some-row = λ F l s. sym (some-at (F .tables) n (omega (arith, h, l)) (omega (arith, k, e, s n, bound-is F n (omega (arith, h, l)))));
 }
 
 pub filled-none : (shape : List ℕ) (tables n : ℕ) → tables ≤ n → Bare shape n → SomeRow shape tables false
 filled-none shape tables n h b = record {
+  has = λ q. absurd (true≢false (sym q));
+  has-none = λ _ t k. b .bare t (omega arith);
   some-row = λ F l s. sym (none-at (F .tables) (λ i k. sym (bound-is F i k) ∙ sym (s i) ∙ b .bare i (omega (arith, h, l, k))));
 }
 
 -- ---- numbers of rows
 
 pub counted-none : (shape counts : List ℕ) → TablesCounted shape 0 counts counts
-counted-none shape counts = record { size = refl; counted = λ t h l. absurd (omega arith) }
+counted-none shape counts = record { size = refl; counted = λ t h l. absurd (omega arith); others = λ t h. refl }
 
 pub counted-more : {shape counts before after : List ℕ} {n b : ℕ} → TablesCounted shape n counts before → b ≡ boundAt shape n → after ≡ set before n b
     → TablesCounted shape (n + 1) counts after
@@ -70,7 +74,8 @@ counted-more {shape} {counts} {before} {after} {n} {b} c e q = record {
   counted = λ t h l. rw q (by-lt t n
       (λ _ k. getD-set-other before n t b 0 (λ z. omega arith) ∙ c .counted t k l)
       (λ _ k. let z : t ≡ n = omega arith in rw z (getD-set-same before n b 0 (omega (arith, c .size)) ∙ e)));
+  others = λ t h. rw q (getD-set-other before n t b 0 (λ z. omega arith) ∙ c .others t (omega arith));
 }
 
-pub counted-all : {shape counts after : List ℕ} {tables n : ℕ} → TablesCounted shape n counts after → tables ≤ n → TablesCounted shape tables counts after
-counted-all c h = record { size = c .size; counted = λ t k l. c .counted t (omega arith) l }
+pub counted-all : {shape counts after : List ℕ} {tables n : ℕ} → TablesCounted shape n counts after → n ≡ tables → TablesCounted shape tables counts after
+counted-all c e = rw e at c

@@ -1,10 +1,10 @@
 -- A file in memory: the packed bytes of its frames, the two arrays and the outline. Everything above the checker rests on this one relation.
 -- Assumes nothing: these are definitions.
 use mathlib.Core.Path.{_≡_}
-use mathlib.Core.Bool.{Bool}
+use mathlib.Core.Bool.{Bool, true, false}
 use mathlib.Core.List.{List, _++_, map}
 use mathlib.Core.Option.{some}
-use Prim.Native.Nat.{ℕ, _+_, _<_}
+use Prim.Native.Nat.{ℕ, _+_, _≤_, _<_}
 use lib.IntN.{ℤ}
 use lib.ListN.{length, getD, drop}
 use Rattle.text.specs.Answers.{pack}
@@ -72,11 +72,14 @@ pub record PlanOf (F : File) (p : Plan) : Type 0 where
 
 -- ---- what the code gives
 
--- whether a table has a row, of any file whose tables have these row bounds
+-- whether one of the first row bounds is above 0; of any file whose tables have these row bounds, whether a table has a row
 pub record SomeRow (shape : List ℕ) (tables : ℕ) (r : Bool) : Type 0 where
+  pub has : r ≡ true → (t : ℕ) × (t < tables) × (0 < boundAt shape t)
+  pub has-none : r ≡ false → (t : ℕ) → t < tables → boundAt shape t ≡ 0
   pub some-row : (F : File) → length (F .tables) ≡ tables → ((i : ℕ) → boundAt shape i ≡ schema (schemas F) i .bound) → r ≡ any (λ t. isPos (t .rows)) (F .tables)
 
--- `counts` gets the row bounds of the tables, which are their numbers of rows
+-- `counts` gets the row bounds of the tables, which are their numbers of rows; every other entry stays
 pub record TablesCounted (shape : List ℕ) (tables : ℕ) (counts counts′ : List ℕ) : Type 0 where
   pub size : length counts′ ≡ length counts
   pub counted : (t : ℕ) → t < tables → t < length counts → getD counts′ t 0 ≡ boundAt shape t
+  pub others : (t : ℕ) → tables ≤ t → getD counts′ t 0 ≡ getD counts t 0

@@ -4,8 +4,8 @@ use mathlib.Core.List.{List, [], _∷_, _++_, append-assoc, append-nil}
 use Prim.Native.Nat.{ℕ, zero, suc, _+_, _*_, _≤_, _<_}
 use native.Mathlib.Nat.{suc-mul, zero-mul, mul-le-mul}
 use native.Mathlib.Omega.{arith}
-use lib.ListN.{length, set, take, drop, length-append, length-set}
-use lib.Seq.{take-suc-set}
+use lib.ListN.{length, getD, set, take, drop, length-append, length-set}
+use lib.Seq.{take-suc-set, getD-set-other}
 use Rattle.value.specs.Bag.{All}
 use Rattle.value.proofs.Places.{element-here}
 use Rattle.meaning.specs.Lists.{copies}
@@ -15,7 +15,7 @@ use Rattle.catalog.specs.Arrays.{widthAt, boundAt}
 use Rattle.language.specs.Legal.{LegalTable, tableAt}
 use Rattle.store.specs.Rows.{listed}
 use Rattle.store.proofs.Listed.{length-listed}
-use Rattle.look.specs.Cells.{code, rowCodes, tableCodes, allCodes, codesOf, Codes, RowCoded, TableCoded, CellsOf}
+use Rattle.look.specs.Cells.{code, rowCodes, tableCodes, allCodes, codesOf, Codes, OnlyFrom, RowCoded, TableCoded, CellsOf}
 
 -- ---- their number
 
@@ -28,6 +28,25 @@ unfolding tableCodes
 length-table t w zero = sym (zero-mul w)
 length-table t w (suc n) =
     length-append (tableCodes t w n) (rowCodes t n w) ∙ ap₂ _+_ (length-table t w n) (length-row t n w) ∙ sym (suc-mul n w)
+
+-- ---- which entries change
+
+only-none : (n r : ℕ) (codes : List ℕ) → OnlyFrom n r codes codes
+only-none n r codes = record { size = refl; before = λ i h. refl; behind = λ i h. refl }
+
+only-next : {n m r : ℕ} {a b c : List ℕ} → n ≤ m → m ≤ r → OnlyFrom n m a b → OnlyFrom m r b c → OnlyFrom n r a c
+only-next h k p q = record {
+  size = q .size ∙ p .size;
+  before = λ i l. q .before i (omega arith) ∙ p .before i l;
+  behind = λ i l. q .behind i l ∙ p .behind i (omega arith);
+}
+
+only-set : (n r x : ℕ) (codes : List ℕ) → n < r → OnlyFrom n r codes (set codes n x)
+only-set n r x codes h = record {
+  size = length-set codes n x;
+  before = λ i l. getD-set-other codes n i x 0 (λ e. omega arith);
+  behind = λ i l. getD-set-other codes n i x 0 (λ e. omega arith);
+}
 
 -- ---- one more
 
@@ -44,7 +63,7 @@ codes-one {codes} {xs} {n} x c h =
 
 pub row-none : (table row n : ℕ) (codes : List ℕ) → RowCoded table row 0 n codes (n + 0) codes
 unfolding rowCodes listed
-row-none table row n codes = record { size = refl; total = refl; coded = λ xs c h. codes-none c (omega arith) }
+row-none table row n codes = record { only = only-none n (n + 0) codes; total = refl; coded = λ xs c h. codes-none c (omega arith) }
 
 pub row-more : {table row c n first : ℕ} {codes₀ codes after : List ℕ} → RowCoded table row c n codes₀ (n + c) codes → first ≡ table * 32 + row * 4
     → after ≡ set codes (n + c) (first + c) → RowCoded table row (c + 1) n codes₀ (n + (c + 1)) after
@@ -55,11 +74,11 @@ row-more {table} {row} {c} {n} {first} {codes₀} {codes} {after} r f e =
     let p : n + (c + 1) ≡ n + c + 1 = omega arith in
     let e′ : after ≡ set codes (n + c) x = e ∙ ap (λ k. set codes (n + c) (k + c)) f in
     record {
-      size = ap length e′ ∙ length-set codes (n + c) x ∙ r .size;
+      only = only-next (omega arith) (omega arith) (r .only) (rw e′ (only-set (n + c) (n + (c + 1)) x codes (omega arith)));
       total = refl;
       coded = λ xs k h.
           let one : Codes (set codes (n + c) x) (n + c + 1) (xs ++ rowCodes table row c ++ (x ∷ [])) =
-          codes-one x (r .coded xs k (omega arith)) (omega (arith, h, r .size)) in
+          codes-one x (r .coded xs k (omega arith)) (omega (arith, h, r .only .size)) in
           rw (e′, p, s, ← append-assoc xs (rowCodes table row c) (x ∷ [])) one;
     }
 
@@ -69,7 +88,7 @@ row-all r e = rw e at r
 
 pub table-none : (table columns n : ℕ) (codes : List ℕ) → TableCoded table 0 columns n codes n codes
 unfolding tableCodes
-table-none table columns n codes = record { size = refl; total = omega (arith, zero-mul columns); coded = λ xs c h. codes-none c refl }
+table-none table columns n codes = record { only = only-none n n codes; total = omega (arith, zero-mul columns); coded = λ xs c h. codes-none c refl }
 
 pub table-more : {table i columns n all r : ℕ} {codes₀ codes after : List ℕ} → TableCoded table i columns n codes₀ all codes
     → RowCoded table i columns all codes r after → TableCoded table (i + 1) columns n codes₀ r after
@@ -77,11 +96,11 @@ unfolding tableCodes
 table-more {table} {i} {columns} {n} {all} {r} {codes₀} {codes} {after} a b =
     let s : i + 1 ≡ suc i = omega arith in
     record {
-      size = b .size ∙ a .size;
+      only = only-next (omega (arith, a .total)) (omega (arith, b .total)) (a .only) (b .only);
       total = rw s (omega (arith, a .total, b .total, suc-mul i columns));
       coded = λ xs c h.
           let both : Codes after r (xs ++ tableCodes table columns i ++ rowCodes table i columns) =
-          b .coded (xs ++ tableCodes table columns i) (a .coded xs c (omega (arith, h, b .total))) (omega (arith, h, a .size)) in
+          b .coded (xs ++ tableCodes table columns i) (a .coded xs c (omega (arith, h, b .total))) (omega (arith, h, a .only .size)) in
           rw (s, ← append-assoc xs (tableCodes table columns i) (rowCodes table i columns)) both;
     }
 
@@ -91,7 +110,7 @@ table-all r e = rw e at r
 
 pub tables-none : (shape codes : List ℕ) → CellsOf shape 0 codes 0 codes
 unfolding allCodes
-tables-none shape codes = record { size = refl; total = refl; coded = λ h. record { number = refl; there = refl } }
+tables-none shape codes = record { only = only-none 0 0 codes; total = refl; coded = λ h. record { number = refl; there = refl } }
 
 pub tables-more : {shape codes₀ codes after : List ℕ} {t all rows columns r : ℕ} → CellsOf shape t codes₀ all codes
     → rows ≡ boundAt shape t → columns ≡ widthAt shape t → TableCoded t rows columns all codes r after → CellsOf shape (t + 1) codes₀ r after
@@ -100,10 +119,10 @@ tables-more {shape} {codes₀} {codes} {after} {t} {all} {rows} {columns} {r} a 
     let s : t + 1 ≡ suc t = omega arith in
     let xs = allCodes (boundAt shape) (widthAt shape) t in
     record {
-      size = b .size ∙ a .size;
+      only = only-next (omega arith) (omega (arith, b .total)) (a .only) (b .only);
       total = rw (s, ← p, ← q)
           (omega (arith, a .total, b .total, length-append xs (tableCodes t columns rows), length-table t columns rows));
-      coded = λ h. rw (s, ← p, ← q) (b .coded xs (a .coded (omega (arith, h, b .total))) (omega (arith, h, a .size)));
+      coded = λ h. rw (s, ← p, ← q) (b .coded xs (a .coded (omega (arith, h, b .total))) (omega (arith, h, a .only .size)));
     }
 
 pub tables-all : {shape codes₀ codes : List ℕ} {t tables all : ℕ} → CellsOf shape t codes₀ all codes → t ≡ tables

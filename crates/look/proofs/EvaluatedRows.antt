@@ -71,7 +71,7 @@ module _ (text : List ℕ) (F : File) (e : fileOf text ≡ Outcome.accepted F) w
       memory = memoryFrom (memory′ .counts) (memory′ .signs) work″;
       checked = P .checked;
       flagged = P .flagged;
-      stands = moved-at (set-up .file) (digits-kept (P .flagged .first) (digits-given (plan-of .file) D refl)) (J .kept) M (P .stands);
+      stands = moved-at (set-up .file) (digits-kept (P .flagged .more .first) (digits-given (plan-of .file) D refl)) (J .kept) M (P .stands);
     }
 
     -- "Each view's rows, counted as a bag, are those of the Extended Relational Algebra"

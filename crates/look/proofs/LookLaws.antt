@@ -1,13 +1,13 @@
 -- A look, from what each of its calls gives. Assumes nothing.
-use mathlib.Core.Path.{_≡_, refl, sym, ap, ap₂, _∙_}
-use mathlib.Core.Bool.{cond}
+use mathlib.Core.Path.{_≡_, refl, sym, ap, ap₂, subst, _∙_}
+use mathlib.Core.Bool.{Bool, true, false, cond}
 use mathlib.Core.List.{List, _++_, map}
 use Prim.Native.Nat.{ℕ, _+_, _≤_, _<_, min}
 use native.Mathlib.Omega.{arith}
 use borrow.Author.Tests.{lt-ltb, ltb-true, ltb-false, eq-eqb, ne-eqb}
 use lib.Dec.{ltb, eqb}
 use lib.IntN.{ℤ, pos}
-use lib.ListN.{length, drop, replicate}
+use lib.ListN.{length, getD, drop, replicate}
 use Rattle.value.specs.Value.{Value, shown}
 use Rattle.value.proofs.Decides.{by-test}
 use Rattle.meaning.specs.Syntax.{File}
@@ -24,11 +24,12 @@ use Rattle.look.specs.Cells.{codesOf, CellsOf}
 use Rattle.look.specs.Moves.{placesFrom, Digits}
 use Rattle.look.specs.Scans.{FirstFound, Searched}
 use Rattle.look.specs.Buffers.{Shows}
-use Rattle.look.specs.Looks.{answerOf, Concludes, Looked, LooksAt}
+use Rattle.look.specs.Looks.{answerOf, cellsBy, Leaves, Concludes, Looked, LooksAt}
 use Rattle.language.specs.LookOf.{lookAt, lookOf}
 use Rattle.look.specs.declared.scan.Span.{Span}
 use Rattle.look.specs.declared.Answer.{Answer as Answered}
 use Rattle.look.specs.declared.Answer.the-variants.{Case, NoCase, Spent, Refused}
+use Rattle.look.proofs.BufferLaws.{shows-all}
 use Rattle.look.proofs.Standing.{digits-given}
 
 -- ---- without a case
@@ -55,12 +56,14 @@ module _ {p : Plan} where
   module _ {start count : ℕ} {work inst : List ℤ} where
     pub finds-short : {cells : ℕ} {codes : List ℕ} → Coded p cells codes → length inst < cells → Looked p start count work inst (Refused 12 0) work inst
     finds-short C h = record {
+      leaves = (refl, refl);
       finds = λ F P whole. sym (look-short F start count work inst whole (omega (arith, digits P C .number)));
     }
 
     pub finds-late : {cells : ℕ} {codes : List ℕ} → Coded p cells codes → cells ≤ length inst → p .candidates < start
         → Looked p start count work inst (Refused 13 0) work inst
     finds-late C h l = record {
+      leaves = (refl, refl);
       finds = λ F P whole. sym (look-late F start count work inst whole (omega (arith, digits P C .number)) (omega (arith, P .candidates-are)));
     }
 
@@ -68,15 +71,21 @@ module _ {p : Plan} where
 abbrev spanOf : Plan → ℕ → ℕ → ℕ → Span
 spanOf p cells start end = record { outline = p .outline; goal = p .goal; cells = cells; start = start; end = end }
 
+-- "no case" and "spent" leave the same
+by-end : (b : Bool) (cells end : ℕ) (work inst work′ : List ℤ) → work′ ≡ zeros work → Leaves (cond b Answer.noCase (Answer.spent end)) cells work inst work′ inst
+by-end true cells end work inst work′ z = (z, refl)
+by-end false cells end work inst work′ z = (z, refl)
+
 -- the search of a look that is not refused has come to k
 pub record Sought (p : Plan) (start count : ℕ) (work inst : List ℤ) (end k : ℕ) (work₁ : List ℤ) : Type 0 where
   pub codes : List ℕ
+  pub shape : List ℕ
   pub cells : ℕ
   pub coded : Coded p cells codes
   pub room : cells ≤ length inst
   pub from : start ≤ p .candidates
   pub to : end ≡ min (start + count) (p .candidates)
-  pub search : Searched (sourceOf p) (p .ends) codes (spanOf p cells start end) work k work₁
+  pub search : Searched (sourceOf p) (p .ends) codes (spanOf p cells start end) work k shape work₁
 
 module _ {p : Plan} {start count : ℕ} {work inst : List ℤ} {end k : ℕ} {work₁ : List ℤ} (S : Sought p start count work inst end k work₁) where
   module _ (F : File) (P : PlanOf F p) (whole : workSize ≤ length work) where
@@ -92,11 +101,12 @@ module _ {p : Plan} {start count : ℕ} {work inst : List ℤ} {end k : ℕ} {wo
   pub finds-case : {work₂ inst₂ : List ℤ} → k < end → Shows (S .codes) (S .cells) work₁ inst inst₂ → work₂ ≡ zeros work₁
       → Looked p start count work inst (Case k) work₂ inst₂
   finds-case {work₂} {inst₂} h W z = record {
+    leaves = (z ∙ zeros-same work₁ work (S .search .only .size), λ j l. W .others j (omega (arith, S .coded .total)));
     finds = λ F P whole.
         let D = digits P (S .coded) in
-        let w : work₂ ≡ zeros work = z ∙ zeros-same work₁ work (S .search .length-kept) in
+        let w : work₂ ≡ zeros work = z ∙ zeros-same work₁ work (S .search .only .size) in
         let i : inst₂ ≡ shownIn F k inst =
-        W .shows (codesOf F) (D .codes-are) (S .room)
+        shows-all W (codesOf F) (D .codes-are) (S .room)
         ∙ ap₂ (λ (a : List Value) (j : ℕ). map shown a ++ drop j inst) (found F P whole .cells h) (sym (D .number)) in
         ap₂ (λ (a b : List ℤ). After.after (Answer.case k) a b) w i ∙ sym (looks F P whole ∙ search-case F work inst end k h);
   }
@@ -104,8 +114,10 @@ module _ {p : Plan} {start count : ℕ} {work inst : List ℤ} {end k : ℕ} {wo
   pub finds-none : {work₂ : List ℤ} {r : Answered} → end ≤ k → work₂ ≡ zeros work₁ → Concludes end (p .candidates) r
       → Looked p start count work inst r work₂ inst
   finds-none {work₂} {r} h z R = record {
+    leaves = subst (λ a. Leaves a (cellsBy p) work inst work₂ inst) (sym (R .concludes))
+        (by-end (eqb end (p .candidates)) (cellsBy p) end work inst work₂ (z ∙ zeros-same work₁ work (S .search .only .size)));
     finds = λ F P whole.
-        let w : work₂ ≡ zeros work = z ∙ zeros-same work₁ work (S .search .length-kept) in
+        let w : work₂ ≡ zeros work = z ∙ zeros-same work₁ work (S .search .only .size) in
         let a : answerOf r ≡ cond (eqb end (candidates F)) Answer.noCase (Answer.spent end) =
         R .concludes ∙ ap (λ j. cond (eqb end j) Answer.noCase (Answer.spent end)) (P .candidates-are) in
         ap₂ (λ (a : Answer) (b : List ℤ). After.after a b inst) a w ∙ sym (looks F P whole ∙ search-none F work inst end k h);
@@ -122,6 +134,7 @@ module _ {p : Plan} {start count : ℕ} {work inst : List ℤ} where
   at-short h = record {
     work-size = refl;
     inst-size = refl;
+    leaves = (refl, refl);
     short = λ _. refl;
     refused = λ whole k. absurd (omega arith);
     accepted = λ F P. sym (look-unsized F start count work inst h);
@@ -131,6 +144,7 @@ module _ {p : Plan} {start count : ℕ} {work inst : List ℤ} where
   at-refused whole k = record {
     work-size = refl;
     inst-size = refl;
+    leaves = (refl, refl);
     short = λ h. absurd (omega arith);
     refused = λ _ _. refl;
     accepted = λ F P. absurd (k (P .number));
@@ -141,6 +155,7 @@ module _ {p : Plan} {start count : ℕ} {work inst : List ℤ} where
   at-file w i whole z L = record {
     work-size = w;
     inst-size = i;
+    leaves = L .leaves;
     short = λ h. absurd (omega arith);
     refused = λ _ k. absurd (k z);
     accepted = λ F P. L .finds F P whole;

@@ -16,9 +16,9 @@ use Rattle.meaning.proofs.ListSteps.{map-at}
 use Rattle.catalog.specs.Arrays.{columnAt}
 use Rattle.catalog.proofs.FileLaws.{noColumn}
 use Rattle.store.specs.Layout.{area, putCell}
-use Rattle.store.proofs.CellLaws.{put-cell-length}
-use Rattle.look.specs.Cells.{codesOf, cellsIn}
-use Rattle.look.specs.Moves.{codeColumn, CellPlaces, Digits, DigitPut, CandidatePut, Moved}
+use Rattle.store.proofs.RowLaws.{only-same, only-more, only-wider, only-put-cell}
+use Rattle.look.specs.Cells.{codesOf, cellsIn, CodedTable}
+use Rattle.look.specs.Moves.{codeColumn, CellPlaces, Digits, OnlyCoded, DigitPut, CandidatePut, Moved}
 use Rattle.look.specs.declared.moves.Quotients.{Quotients}
 use Rattle.look.proofs.Distinct.{codes-rise, rising-within, cell-put}
 use Rattle.look.proofs.DigitLaws.{same-leading, drop-values, values-step, quotient-step, column-legal, legal-size, digit-held}
@@ -35,14 +35,14 @@ module _ {shape : List ℕ} {ends : List ℤ} {x : ℕ} {q : Quotients} {work : 
   -- no column is without digits
   pub none-put : size d ≡ 0 → DigitPut shape ends x q work q work
   none-put z = record {
-    length-kept = refl;
+    only = only-same work;
     put = λ c h e s. let p : size c ≡ 0 = ap size (sym (found h ∙ e)) ∙ z in absurd (omega arith);
   }
 
   pub digit-put : {work′ : List ℤ} (s : ℕ) (v : Value) → s ≡ size d → v ≡ narrowed (digit d (q .new % s)) → work′ ≡ putCell work (x / 32) (x / 4 % 8) (x % 4) v
       → DigitPut shape ends x q work (record { old = q .old / s; new = q .new / s }) work′
   digit-put s v k w p = record {
-    length-kept = ap length p ∙ put-cell-length work (x / 32) (x / 4 % 8) (x % 4) v;
+    only = rw p (only-put-cell work (x / 32) (x / 4 % 8) (x % 4) v refl);
     put = λ c h e o.
         let f : d ≡ c = found h ∙ e in
         let z : s ≡ size c = k ∙ ap size f in (
@@ -71,7 +71,7 @@ pub record Going (F : File) (k next : ℕ) (before : List Value) (work : List �
   pub rest : drop j (cellsIn work (codesOf F)) ≡ values (drop j (cellColumns (F .tables))) next
 
 pub record Under (p : CellPlaces) (k next : ℕ) (work₀ work : List ℤ) (j : ℕ) (q : Quotients) : Type 0 where
-  pub length-kept : length work ≡ length work₀
+  pub only : OnlyCoded p work₀ work
   pub bound : j ≤ p .cells
   pub going : (F : File) → Digits F p → area ≤ length work₀ → Going F k next (cellsIn work₀ (codesOf F)) work j q
 
@@ -149,7 +149,7 @@ rest-there {k} {next} F {work} {j} {q} e g =
 
 module _ {p : CellPlaces} {k next : ℕ} {work₀ : List ℤ} where
   pub under-first : Under p k next work₀ work₀ (p .cells) (record { old = k; new = next })
-  under-first = record { length-kept = refl; bound = omega arith; going = λ F D a. going-first k next work₀ F D }
+  under-first = record { only = only-same work₀; bound = omega arith; going = λ F D a. going-first k next work₀ F D }
 
   pub under-next : {work work′ : List ℤ} {j x : ℕ} {q r : Quotients} → 0 < j → Under p k next work₀ work j q → x ≡ getD (p .codes) (j - 1) 0
       → DigitPut (p .shape) (p .ends) x q work r work′ → Under p k next work₀ work′ (j - 1) r
@@ -157,24 +157,26 @@ module _ {p : CellPlaces} {k next : ℕ} {work₀ : List ℤ} where
       let b : j ≤ p .cells = u .bound in
       let s : j ≡ suc (j - 1) = omega arith in
       let P : DigitPut (p .shape) (p .ends) (getD (p .codes) (j - 1) 0) q work r work′ = subst (λ (y : ℕ). DigitPut (p .shape) (p .ends) y q work r work′) e put in
+      let own : (t : ℕ) → t ≡ x / 32 → CodedTable (p .codes) (p .cells) t =
+      λ t k. record { cell = j - 1; there = omega arith; table = ap (λ (y : ℕ). y / 32) (sym e) ∙ sym k } in
       record {
-        length-kept = put .length-kept ∙ u .length-kept;
+        only = only-more (u .only) (only-wider own (put .only));
         bound = omega arith;
-        going = λ F D a. going-next F D (omega arith) (omega (arith, u .length-kept))
+        going = λ F D a. going-next F D (omega arith) (omega (arith, u .only .size))
             (subst (λ (i : ℕ). Going F k next (cellsIn work₀ (codesOf F)) work i q) s (u .going F D a)) P;
       }
 
   pub moved-all : {work : List ℤ} {j : ℕ} {q : Quotients} → j ≤ 0 → Under p k next work₀ work j q
       → Moved p k next work₀ work
-  moved-all h u = record { length-kept = u .length-kept; moved = λ F D a e. all-there F (omega arith) (u .going F D a) }
+  moved-all h u = record { only = u .only; moved = λ F D a e. all-there F (omega arith) (u .going F D a) }
 
   pub moved-enough : {work : List ℤ} {j : ℕ} {q : Quotients} → q .old ≡ q .new → Under p k next work₀ work j q
       → Moved p k next work₀ work
   moved-enough {work} {j} {q} s u = record {
-    length-kept = u .length-kept;
+    only = u .only;
     moved = λ F D a e. rest-there F s (subst (λ (b : List Value). Going F k next b work j q) e (u .going F D a));
   }
 
   pub placed-all : {work : List ℤ} {j : ℕ} {q : Quotients} → j ≤ 0 → Under p k next work₀ work j q
       → CandidatePut p next work₀ work
-  placed-all h u = record { length-kept = u .length-kept; placed = λ F D a. all-there F (omega arith) (u .going F D a) }
+  placed-all h u = record { only = u .only; placed = λ F D a. all-there F (omega arith) (u .going F D a) }

@@ -2,9 +2,9 @@
 -- table and 4 for a row, and no table has more than 8 rows of 4 columns. Assumes nothing: these are definitions, and they compute.
 use mathlib.Core.Path.{_≡_}
 use mathlib.Core.List.{List, [], _++_, map}
-use Prim.Native.Nat.{ℕ, zero, suc, _+_, _*_, _/_, _%_, _≤_}
+use Prim.Native.Nat.{ℕ, zero, suc, _+_, _*_, _/_, _%_, _≤_, _<_}
 use lib.IntN.{ℤ}
-use lib.ListN.{length, take}
+use lib.ListN.{length, getD, take}
 use Rattle.value.specs.Value.{Value}
 use Rattle.meaning.specs.Syntax.{File}
 use Rattle.catalog.specs.Arrays.{widthAt, boundAt}
@@ -46,17 +46,29 @@ pub record Codes (codes : List ℕ) (n : ℕ) (xs : List ℕ) : Type 0 where
   pub number : length xs ≡ n
   pub there : take n codes ≡ xs
 
-pub record RowCoded (table row columns n : ℕ) (codes : List ℕ) (r : ℕ) (codes′ : List ℕ) : Type 0 where
+-- only entries from n on and before r change
+pub record OnlyFrom (n r : ℕ) (codes codes′ : List ℕ) : Type 0 where
   pub size : length codes′ ≡ length codes
+  pub before : (i : ℕ) → i < n → getD codes′ i 0 ≡ getD codes i 0
+  pub behind : (i : ℕ) → r ≤ i → getD codes′ i 0 ≡ getD codes i 0
+
+-- relation r is that of one of the first n codes
+pub record CodedTable (codes : List ℕ) (n r : ℕ) : Type 0 where
+  pub cell : ℕ
+  pub there : cell < n
+  pub table : getD codes cell 0 / 32 ≡ r
+
+pub record RowCoded (table row columns n : ℕ) (codes : List ℕ) (r : ℕ) (codes′ : List ℕ) : Type 0 where
+  pub only : OnlyFrom n r codes codes′
   pub total : r ≡ n + columns
   pub coded : (xs : List ℕ) → Codes codes n xs → r ≤ length codes → Codes codes′ r (xs ++ rowCodes table row columns)
 
 pub record TableCoded (table rows columns n : ℕ) (codes : List ℕ) (r : ℕ) (codes′ : List ℕ) : Type 0 where
-  pub size : length codes′ ≡ length codes
+  pub only : OnlyFrom n r codes codes′
   pub total : r ≡ n + rows * columns
   pub coded : (xs : List ℕ) → Codes codes n xs → r ≤ length codes → Codes codes′ r (xs ++ tableCodes table columns rows)
 
 pub record CellsOf (shape : List ℕ) (tables : ℕ) (codes : List ℕ) (r : ℕ) (codes′ : List ℕ) : Type 0 where
-  pub size : length codes′ ≡ length codes
+  pub only : OnlyFrom 0 r codes codes′
   pub total : r ≡ length (allCodes (boundAt shape) (widthAt shape) tables)
   pub coded : r ≤ length codes → Codes codes′ r (allCodes (boundAt shape) (widthAt shape) tables)

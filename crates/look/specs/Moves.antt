@@ -9,8 +9,8 @@ use Rattle.meaning.specs.Syntax.{File}
 use Rattle.meaning.specs.Candidates.{cellColumns, cells}
 use Rattle.catalog.specs.Arrays.{columnAt}
 use Rattle.language.specs.Legal.{Legal}
-use Rattle.store.specs.Layout.{area, putCell}
-use Rattle.look.specs.Cells.{codesOf, cellsIn, Codes}
+use Rattle.store.specs.Layout.{area, putCell, OnlyCells}
+use Rattle.look.specs.Cells.{codesOf, cellsIn, Codes, CodedTable}
 use Rattle.look.specs.declared.moves.Quotients.{Quotients}
 
 -- the column of the cell of a code
@@ -34,16 +34,21 @@ pub record Digits (F : File) (p : CellPlaces) : Type 0 where
   pub columns : map (codeColumn (p .shape) (p .ends)) (codesOf F) ≡ cellColumns (F .tables)
   pub number : length (cellColumns (F .tables)) ≡ p .cells
 
+-- the cells of the tables of the codes may change, and no other number. Of codes, ranges and numbers that are of no file no more is said of
+-- these cells: each look at a file puts codes and ranges of that file
+abbrev pub OnlyCoded : CellPlaces → List ℤ → List ℤ → Type 0
+OnlyCoded p = OnlyCells (CodedTable (p .codes) (p .cells))
+
 -- of a cell whose column is c, and which has no other digits than those of c
 pub record DigitPut (shape : List ℕ) (ends : List ℤ) (x : ℕ) (q : Quotients) (work : List ℤ) (r : Quotients) (work′ : List ℤ) : Type 0 where
-  pub length-kept : length work′ ≡ length work
+  pub only : OnlyCells (λ t. t ≡ x / 32) work work′
   pub put : (c : Column) → x < 512 → codeColumn shape ends x ≡ c → 0 < size c
       → (work′ ≡ putCell work (x / 32) (x / 4 % 8) (x % 4) (narrowed (digit c (q .new % size c)))) × (r .old ≡ q .old / size c) × (r .new ≡ q .new / size c)
 
 pub record CandidatePut (p : CellPlaces) (k : ℕ) (work work′ : List ℤ) : Type 0 where
-  pub length-kept : length work′ ≡ length work
+  pub only : OnlyCoded p work work′
   pub placed : (F : File) → Digits F p → area ≤ length work → cellsIn work′ (codesOf F) ≡ cells F k
 
 pub record Moved (p : CellPlaces) (k next : ℕ) (work work′ : List ℤ) : Type 0 where
-  pub length-kept : length work′ ≡ length work
+  pub only : OnlyCoded p work work′
   pub moved : (F : File) → Digits F p → area ≤ length work → cellsIn work (codesOf F) ≡ cells F k → cellsIn work′ (codesOf F) ≡ cells F next

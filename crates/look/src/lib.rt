@@ -69,8 +69,8 @@ fn looked(p: Plan, start: u64, count: u64, work: &mut [i32], instance: &mut [i16
     concluded(end, n)
 }
 
-// A look at a plan: 11 first, then the plan's own refusal, then 12 and 13. What a plan of number 0 that is of no legal file gives is left
-// open but for 11 and the buffers' lengths: the checker gives no such plan.
+// A look at a plan: 11 first, then the plan's own refusal, then 12 and 13. Which answer a plan of number 0 that is of no legal file gets is
+// left open but for 11: the checker gives no such plan. What the answer leaves in the buffers is said of every plan.
 // Refused: every plan refused; 9,215 numbers as enough.
 pub fn look_at(p: Plan, start: u64, count: u64, work: &mut [i32], instance: &mut [i16]) -> Answer
     ensures { λ r. ⌜ LooksAt p start count (now (work .entry)) (now (instance .entry)) r (now (work .exit)) (now (instance .exit)) ⌝ }

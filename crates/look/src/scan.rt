@@ -52,7 +52,8 @@ fn scan(
     work: &mut [i32],
 ) -> u64
     ensures { λ r. ⌜ Scans (sourceFrom (now (bytes .entry)) (now (shape .entry)) (s .outline)) (now (ends .entry)) (now (codes .entry)) s
-        (memoryFrom (now (counts .entry)) (now (signs .entry)) (now (work .entry))) r (now (work .exit)) ⌝ }
+        (memoryFrom (now (counts .entry)) (now (signs .entry)) (now (work .entry))) r
+        (memoryFrom (now (counts .exit)) (now (signs .exit)) (now (work .exit))) ⌝ }
 {
     let mut k = s.start;
     while k < s.end {
@@ -77,7 +78,7 @@ pub fn search(
     work: &mut [i32],
 ) -> u64
     ensures { λ r. ⌜ Searched (sourceFrom (now (bytes .entry)) (now (shape .entry)) (s .outline)) (now (ends .entry)) (now (codes .entry)) s
-        (now (work .entry)) r (now (work .exit)) ⌝ }
+        (now (work .entry)) r (now (shape .exit)) (now (work .exit)) ⌝ }
 {
     let mut counts = [0u8; 16];
     outline::count_tables(shape, s.outline.tables, &mut counts);

@@ -9,6 +9,14 @@ ghost use Rattle.language.specs.FileOf.{fileOf};
 ghost use Rattle.catalog.specs.FileIn.{sourceFrom};
 ghost use Rattle.trial.specs.Tried.{EveryRelation, Tried};
 
+// The work area and `counts` have at least this many entries.
+const AREA: usize = 9216;
+
+const RELATIONS: usize = 16;
+
+// What is returned where they have fewer: refusal 11.
+const SHORT: u32 = 11 * 65536;
+
 // Whether the database is a case; then every relation is evaluated.
 fn every_relation(
     bytes: &[u8],
@@ -30,14 +38,20 @@ fn every_relation(
     case
 }
 
-// The tables of the database stand in the work area, each row in its relation's stretch. For a text that is refused, the number of its
-// refusal in the upper 16 bits and the line in the lower; else 1 for a case and 0 for none. Then the work area has the rows of every
-// relation, and `counts` their numbers.
-// Refused: 2 for a case; 1 for none.
+// The tables of the database stand in the work area, each row in its relation's stretch. For buffers that are too short and for a text that
+// is refused, the number of the refusal in the upper 16 bits and the line in the lower; else 1 for a case and 0 for none. Then the work area
+// has the rows of every relation, and `counts` their numbers.
+// Refused: 2 for a case; 1 for none; 9,215 numbers as enough.
 #[no_mangle]
 pub extern "C" fn sakthveim_evaluate(text: &[u8], counts: &mut [u8], work: &mut [i32]) -> u32
     ensures { λ r. ⌜ Tried (fileOf (now (text .entry))) (now (counts .entry)) (now (work .entry)) r (now (counts .exit)) (now (work .exit)) ⌝ }
 {
+    if work.len() < AREA {
+        return SHORT;
+    }
+    if counts.len() < RELATIONS {
+        return SHORT;
+    }
     let p = plan::check(text);
     if p.number != 0 {
         return (p.number as u32) * 65536 + (p.line as u32);

@@ -10,7 +10,7 @@ use Rattle.meaning.specs.Syntax.{Row}
 use Rattle.store.specs.Layout.{columnLimit, cellIn}
 use Rattle.store.specs.Rows.{listed, rowIn, rowsIn, putRow, rowOf, withValue}
 use Rattle.store.specs.declared.Row.{Row as Values}
-use Rattle.store.proofs.RowLaws.{rows-none, rows-more, row-of-rows, row-of-none, row-of-length, with-next, put-length, put-other, put-grows}
+use Rattle.store.proofs.RowLaws.{rows-none, rows-more, row-of-rows, row-of-none, row-of-length, with-next, put-length, put-other, put-grows, only-same, only-more, only-put-row}
 use Rattle.views.specs.Copies.{Apart, Fits, Copied, Union}
 
 -- ---- one row
@@ -32,13 +32,13 @@ row-whole row work r w c i h k p = let e : w ≡ c = omega arith in rw e p
 -- ---- several rows
 
 pub apart-same : (r : ℕ) (work : List ℤ) → Apart r work work
-apart-same r work = record { size = refl; others = λ i w n h. refl }
+apart-same r work = record { only = only-same work; size = refl; others = λ i w n h. refl }
 
 pub apart-more : {r : ℕ} {a b c : List ℤ} → Apart r a b → Apart r b c → Apart r a c
-apart-more p q = record { size = q .size ∙ p .size; others = λ i w n h. q .others i w n h ∙ p .others i w n h }
+apart-more p q = record { only = only-more (p .only) (q .only); size = q .size ∙ p .size; others = λ i w n h. q .others i w n h ∙ p .others i w n h }
 
 pub apart-put : (work : List ℤ) (r i w : ℕ) (row : Row) → Apart r work (putRow work r i w row)
-apart-put work r i w row = record { size = put-length work r i w row; others = λ j v n h. put-other work r i w row j v n h }
+apart-put work r i w row = record { only = only-put-row work r i w row refl; size = put-length work r i w row; others = λ j v n h. put-other work r i w row j v n h }
 
 pub copied-none : (work : List ℤ) (source to at w : ℕ) → Copied work source 0 to at w work
 copied-none work source to at w = record {

@@ -7,12 +7,13 @@ use lib.IntN.{ℤ}
 use lib.ListN.{length}
 use Rattle.meaning.specs.Lists.{common}
 use Rattle.meaning.specs.Evaluation.{rowTest}
-use Rattle.store.specs.Layout.{relationLimit, rowLimit, columnLimit, area}
+use Rattle.store.specs.Layout.{relationLimit, rowLimit, columnLimit, area, OnlyCells}
 use Rattle.store.specs.Rows.{rowIn, rowsIn, putRow, rowOf}
 use Rattle.store.specs.declared.Row.{Row as Values}
 
--- only relation r changes
+-- only cells of relation r change
 pub record Apart (r : ℕ) (work work′ : List ℤ) : Type 0 where
+  pub only : OnlyCells (λ i. i ≡ r) work work′
   pub size : length work′ ≡ length work
   pub others : (i w n : ℕ) → (i ≡ r → ⊥) → rowsIn work′ i w n ≡ rowsIn work i w n
 

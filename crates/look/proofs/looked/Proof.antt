@@ -61,6 +61,7 @@ returns-3 c =
     finds-case
     (record {
       codes = _;
+      shape = _;
       cells = _;
       coded = c .before .before .before .before .before .before .before .before .before .before .before .before .before .before .before .before .before .before .before .before .before .cells-of .ensures;
       room = omega arith;
@@ -84,6 +85,7 @@ returns-4 c =
     finds-none
     (record {
       codes = _;
+      shape = _;
       cells = _;
       coded = c .before .before .before .before .before .before .before .before .before .before .before .before .before .before .before .before .before .cells-of .ensures;
       room = omega arith;

@@ -1,6 +1,6 @@
 -- `catalog::outline::count_tables` meets its contract. Assumes nothing.
 use mathlib.Core.Path.{_≡_, refl}
-use Prim.Native.Nat.{_-_}
+use Prim.Native.Nat.{_-_, _≤_}
 use native.Mathlib.Omega.{arith}
 use lib.ListN.{length}
 use borrow.Author.Needs.{needs}
@@ -10,13 +10,13 @@ use Rattle.catalog.proofs.outline.count_tables.Statement.{statement}
 use Rattle.catalog.proofs.outline.count_tables.Tie as tie
 
 abbrev Inv-loop : tie.InvT-loop
-Inv-loop shape tables counts₀ t₀ counts t = TablesCounted shape t counts₀ counts × (length counts ≡ length counts₀)
+Inv-loop shape tables counts₀ t₀ counts t = TablesCounted shape t counts₀ counts × (length counts ≡ length counts₀) × (t ≤ tables)
 
 abbrev μ-loop : tie.MeasureT-loop
 μ-loop shape tables counts₀ t₀ counts t = tables - t
 
 loop-holds : tie.Need-loop-holds Inv-loop μ-loop
-loop-holds c = (counted-none _ _, refl)
+loop-holds c = (counted-none _ _, refl, omega arith)
 
 bound-of-requires : tie.Need-bound-of-requires Inv-loop μ-loop
 bound-of-requires c κs = search needs
@@ -34,7 +34,7 @@ loop-less : tie.Need-loop-less Inv-loop μ-loop
 loop-less c = omega arith
 
 loop-again : tie.Need-loop-again Inv-loop μ-loop
-loop-again c = (counted-more (c .before .before .before .before .before .before .loop .inv .0) (c .before .before .before .before .bound-of .ensures) (c .before .before .put-byte .ensures), search needs)
+loop-again c = (counted-more (c .before .before .before .before .before .before .loop .inv .0) (c .before .before .before .before .bound-of .ensures) (c .before .before .put-byte .ensures), search needs, omega arith)
 
 same-length : tie.Need-same-length Inv-loop μ-loop
 same-length c = search needs

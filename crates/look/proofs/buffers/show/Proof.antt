@@ -54,7 +54,7 @@ loop-again c =
     (c .before .before .before .before .cell .ensures) (back w16 _ (c .before .before .shown .ok) ∙ c .before .before .shown .ensures) (c .before .put-short .ensures)
 
 same-length : tie.Need-same-length Inv-loop μ-loop
-same-length c = c .before .loop .inv .length-kept
+same-length c = c .before .loop .inv .showing .length-kept
 
 returns : tie.Need-returns Inv-loop μ-loop
 returns c = showing-all (c .before .loop .inv) (omega arith)

@@ -16,7 +16,7 @@ loop-holds : tie.Need-loop-holds Inv-loop μ-loop
 loop-holds c = under-first
 
 same-length : tie.Need-same-length Inv-loop μ-loop
-same-length c = c .before .before .before .loop .inv .length-kept
+same-length c = c .before .before .before .loop .inv .only .size
 
 returns : tie.Need-returns Inv-loop μ-loop
 returns c = moved-enough (c .if1 .taken) (c .before .before .before .loop .inv)
@@ -42,7 +42,7 @@ loop-again c =
     (c .before .put-digit .ensures)
 
 same-length-2 : tie.Need-same-length-2 Inv-loop μ-loop
-same-length-2 c = c .before .loop .inv .length-kept
+same-length-2 c = c .before .loop .inv .only .size
 
 returns-2 : tie.Need-returns-2 Inv-loop μ-loop
 returns-2 c = moved-all (c .loop-test .left) (c .before .loop .inv)

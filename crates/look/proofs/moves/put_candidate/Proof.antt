@@ -34,7 +34,7 @@ loop-again : tie.Need-loop-again Inv-loop μ-loop
 loop-again c = under-next (c .before .before .before .before .loop-test .taken) (c .before .before .before .before .before .loop .inv) (c .before .before .before .word-at .ensures) (c .before .put-digit .ensures)
 
 same-length : tie.Need-same-length Inv-loop μ-loop
-same-length c = c .before .loop .inv .length-kept
+same-length c = c .before .loop .inv .only .size
 
 returns : tie.Need-returns Inv-loop μ-loop
 returns c = placed-all (c .loop-test .left) (c .before .loop .inv)
