@@ -4,7 +4,7 @@ use mathlib.Core.List.{List, [], _∷_, _++_, append-assoc, append-nil}
 use Prim.Native.Nat.{ℕ, zero, suc, _+_, _*_, _≤_, _<_}
 use native.Mathlib.Nat.{suc-mul, zero-mul, mul-le-mul}
 use native.Mathlib.Omega.{arith}
-use lib.ListN.{length, getD, set, take, drop, length-append, length-set}
+use lib.ListN.{length, set, take, drop, length-append, length-set}
 use lib.Seq.{take-suc-set, getD-set-other}
 use Rattle.value.specs.Bag.{All}
 use Rattle.value.proofs.Places.{element-here}
@@ -19,7 +19,7 @@ use Rattle.look.specs.Cells.{code, rowCodes, tableCodes, allCodes, codes
 
 -- ---- their number
 
-length-row : (t i w : ℕ) → length (rowCodes t i w) ≡ w
+pub length-row : (t i w : ℕ) → length (rowCodes t i w) ≡ w
 unfolding rowCodes
 length-row t i w = length-listed (code t i) w
 

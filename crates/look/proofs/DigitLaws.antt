@@ -19,7 +19,7 @@ use Rattle.catalog.proofs.FileLaws.{noColumn}
 
 -- ---- quotients
 
-div-product : (k a b : ℕ) → k / (a * b) ≡ k / b / a
+pub div-product : (k a b : ℕ) → k / (a * b) ≡ k / b / a
 div-product k a b = ap (λ (n : ℕ). k / n) (mul-comm a b) ∙ sym (div-div-eq-div-mul k b a)
 
 product-split : (cs : List Column) (j : ℕ) → sizesProduct cs ≡ sizesProduct (take j cs) * sizesProduct (drop j cs)
@@ -56,7 +56,7 @@ quotient-step cs j k h =
 
 -- ---- the columns of a legal file
 
-columns-legal : {ts : List Table} → All LegalTable ts → All LegalColumn (cellColumns ts)
+pub columns-legal : {ts : List Table} → All LegalTable ts → All LegalColumn (cellColumns ts)
 columns-legal All.nil = All.nil
 columns-legal (All.cons {x = t} p ps) = all-append (all-copies (t .rows) (p .columns)) (columns-legal ps)
 

@@ -6,6 +6,7 @@ pub mod Standing
 pub mod Distinct
 pub mod DigitLaws
 pub mod MoveLaws
+pub mod PlaceLaws
 -- the search
 pub mod ScanLaws
 -- demand 2

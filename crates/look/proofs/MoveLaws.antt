@@ -1,7 +1,7 @@
 -- One cell takes its digit, and the cells from the last one back. Assumes nothing.
 use mathlib.Core.Path.{_≡_, refl, sym, ap, ap₂, _∙_, subst}
 use mathlib.Core.List.{List, [], _∷_, _++_}
-use Prim.Native.Nat.{ℕ, zero, suc, _-_, _/_, _%_, _≤_, _<_}
+use Prim.Native.Nat.{ℕ, suc, _-_, _/_, _%_, _≤_, _<_}
 use native.Mathlib.Nat.{mod-eq-of-lt, mod-lt, div-one}
 use native.Mathlib.Omega.{arith}
 use lib.IntN.{ℤ}
@@ -16,9 +16,10 @@ use Rattle.meaning.proofs.ListSteps.{map-at}
 use Rattle.catalog.specs.Arrays.{columnAt}
 use Rattle.catalog.proofs.FileLaws.{noColumn}
 use Rattle.store.specs.Layout.{area, putCell}
+use Rattle.store.proofs.Listed.{drop-set}
 use Rattle.store.proofs.RowLaws.{only-same, only-more, only-wider, only-put-cell}
 use Rattle.look.specs.Cells.{codesOf, cellsIn, CodedTable}
-use Rattle.look.specs.Moves.{codeColumn, CellPlaces, Digits, OnlyCoded, DigitPut, CandidatePut, Moved}
+use Rattle.look.specs.Moves.{codeColumn, CellPlaces, Digits, OnlyCoded, DigitPut, Moved}
 use Rattle.look.specs.declared.moves.Quotients.{Quotients}
 use Rattle.look.proofs.Distinct.{codes-rise, rising-within, cell-put}
 use Rattle.look.proofs.DigitLaws.{same-leading, drop-values, values-step, quotient-step, column-legal, legal-size, digit-held}
@@ -90,11 +91,6 @@ going-first {p} k next work₀ F D =
       first = refl;
       rest = f ∙ sym (ap (λ (l : List Column). values l next) e);
     }
-
-drop-set : (l : List Value) (m : ℕ) (u : Value) → m < length l → drop m (set l m u) ≡ u ∷ drop (suc m) l
-drop-set [] m u t = absurd (omega arith)
-drop-set (y ∷ l) zero u t = refl
-drop-set (y ∷ l) (suc m) u t = drop-set l m u (omega arith)
 
 -- one cell more
 going-next : {p : CellPlaces} {k next : ℕ} (F : File) {before : List Value} {work work′ : List ℤ} {i : ℕ} {q r : Quotients}
@@ -176,7 +172,3 @@ module _ {p : CellPlaces} {k next : ℕ} {work₀ : List ℤ} where
     only = u .only;
     moved = λ F D a e. rest-there F s (subst (λ (b : List Value). Going F k next b work j q) e (u .going F D a));
   }
-
-  pub placed-all : {work : List ℤ} {j : ℕ} {q : Quotients} → j ≤ 0 → Under p k next work₀ work j q
-      → CandidatePut p next work₀ work
-  placed-all h u = record { only = u .only; placed = λ F D a. all-there F (omega arith) (u .going F D a) }

@@ -27,13 +27,13 @@ use Rattle.look.proofs.CodeLaws.{codesFrom, codes-of, codes-few, codes-
 
 -- ---- what a code says
 
-code-table : (t i c : ℕ) → i < 8 → c < 4 → code t i c / 32 ≡ t
+pub code-table : (t i c : ℕ) → i < 8 → c < 4 → code t i c / 32 ≡ t
 code-table t i c h k = omega arith
 
-code-row : (t i c : ℕ) → i < 8 → c < 4 → code t i c / 4 % 8 ≡ i
+pub code-row : (t i c : ℕ) → i < 8 → c < 4 → code t i c / 4 % 8 ≡ i
 code-row t i c h k = omega arith
 
-code-column : (t i c : ℕ) → c < 4 → code t i c % 4 ≡ c
+pub code-column : (t i c : ℕ) → c < 4 → code t i c % 4 ≡ c
 code-column t i c k = omega arith
 
 -- ---- lists
@@ -43,7 +43,7 @@ unfolding listed
 map-listed f g zero = refl
 map-listed f g (suc n) = map-append f (listed g n) (g n ∷ []) ∙ ap (λ l. l ++ (f (g n) ∷ [])) (map-listed f g n)
 
-all-listed : {A : Type 0} {P : A → Type 0} (f : ℕ → A) (n : ℕ) → ((k : ℕ) → P (f k)) → All P (listed f n)
+pub all-listed : {A : Type 0} {P : A → Type 0} (f : ℕ → A) (n : ℕ) → ((k : ℕ) → P (f k)) → All P (listed f n)
 unfolding listed
 all-listed f zero h = All.nil
 all-listed f (suc n) h = all-append (all-listed f n h) (All.cons (h n) All.nil)
@@ -130,7 +130,7 @@ digits-given {F} {codes = codes} {r = r} M c n =
 -- ---- the rows of a table
 
 module _ (work : List ℤ) where
-  row-cells : (t i w : ℕ) → i < 8 → w ≤ 4 → map (cellAt work) (rowCodes t i w) ≡ rowIn work t w i
+  pub row-cells : (t i w : ℕ) → i < 8 → w ≤ 4 → map (cellAt work) (rowCodes t i w) ≡ rowIn work t w i
   unfolding rowCodes cellAt rowIn
   row-cells t i w h k =
       map-listed (cellAt work) (code t i) w

@@ -3,15 +3,18 @@ use mathlib.Core.Path.{_≡_}
 use mathlib.Core.List.{List, map}
 use Prim.Native.Nat.{ℕ, _/_, _%_, _≤_, _<_}
 use lib.IntN.{ℤ}
-use lib.ListN.{length}
+use lib.ListN.{length, getD}
+use Rattle.value.specs.Bag.{All}
 use Rattle.value.specs.Value.{Column, size, digit, narrowed}
 use Rattle.meaning.specs.Syntax.{File}
-use Rattle.meaning.specs.Candidates.{cellColumns, cells}
-use Rattle.catalog.specs.Arrays.{columnAt}
+use Rattle.meaning.specs.Candidates.{cellColumns, sizesProduct, values, cells}
+use Rattle.catalog.specs.Arrays.{noColumn, columnAt}
 use Rattle.language.specs.Legal.{Legal}
-use Rattle.store.specs.Layout.{area, putCell, OnlyCells}
+use Rattle.store.specs.Layout.{area, columnLimit, putCell, OnlyCells}
+use Rattle.store.specs.Rows.{rowOf}
 use Rattle.look.specs.Cells.{codesOf, cellsIn, Codes, CodedTable}
 use Rattle.look.specs.declared.moves.Quotients.{Quotients}
+use Rattle.look.specs.declared.moves.TakenRow.{TakenRow}
 
 -- the column of the cell of a code
 abbrev pub codeColumn : List ℕ → List ℤ → ℕ → Column
@@ -44,6 +47,11 @@ pub record DigitPut (shape : List ℕ) (ends : List ℤ) (x : ℕ) (q : Quotient
   pub only : OnlyCells (λ t. t ≡ x / 32) work work′
   pub put : (c : Column) → x < 512 → codeColumn shape ends x ≡ c → 0 < size c
       → (work′ ≡ putCell work (x / 32) (x / 4 % 8) (x % 4) (narrowed (digit c (q .new % size c)))) × (r .old ≡ q .old / size c) × (r .new ≡ q .new / size c)
+
+-- of a row whose columns are cs, none without digits: the last digits of q, and what is left of q
+pub record TakesRow (shape : List ℕ) (ends : List ℤ) (table width q : ℕ) (r : TakenRow) : Type 0 where
+  pub takes : (cs : List Column) → length cs ≡ width → width ≤ columnLimit → ((c : ℕ) → c < width → columnAt shape ends table c ≡ getD cs c noColumn)
+      → All (λ c. 0 < size c) cs → (rowOf (r .row) width ≡ map narrowed (values cs q)) × (r .left ≡ q / sizesProduct cs)
 
 pub record CandidatePut (p : CellPlaces) (k : ℕ) (work work′ : List ℤ) : Type 0 where
   pub only : OnlyCoded p work work′

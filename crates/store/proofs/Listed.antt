@@ -6,7 +6,7 @@ use Prim.Native.Nat.{ℕ, zero, suc, _<_}
 use native.Mathlib.Nat.{eq-or-lt-of-le, le-of-suc-le-suc}
 use native.Mathlib.Omega.{arith}
 use lib.Dec.{eqb}
-use lib.ListN.{length, getD, set, length-append, length-set, List·getD-append}
+use lib.ListN.{length, getD, set, drop, length-append, length-set, List·getD-append}
 use lib.Seq.{getD-at, getD-set-same, getD-set-other, ext-getD, set-at}
 use borrow.Author.Tests.{eqb-true, eqb-false}
 use Rattle.value.proofs.Decides.{by-test}
@@ -51,6 +51,11 @@ module _ {A : Type 0} where
       getD-listed g n k v m ∙ by-test (eqb k c)
       (λ t. let q : k ≡ c = eqb-true k c t in rw q (e ∙ sym (getD-set-same (listed f n) c v v (omega (arith, length-listed f n)))))
       (λ t. h k (eqb-false k c t) ∙ sym (getD-set-other (listed f n) c k v v (eqb-false k c t) ∙ getD-listed f n k v m)))
+
+  pub drop-set : (l : List A) (m : ℕ) (u : A) → m < length l → drop m (set l m u) ≡ u ∷ drop (suc m) l
+  drop-set [] m u t = absurd (omega arith)
+  drop-set (y ∷ l) zero u t = refl
+  drop-set (y ∷ l) (suc m) u t = drop-set l m u (omega arith)
 
 module _ {A B : Type 0} (f : A → B) where
   pub map-set : (l : List A) (k : ℕ) (a : A) → map f (set l k a) ≡ set (map f l) k (f a)

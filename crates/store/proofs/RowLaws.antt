@@ -4,7 +4,7 @@ use mathlib.Core.List.{List, [], _∷_, _++_, map}
 use Prim.Native.Nat.{ℕ, zero, suc, _+_, _≤_, _<_}
 use native.Mathlib.Numerals.{add-one}
 use lib.IntN.{ℤ}
-use lib.ListN.{length, getD, set, replicate, length-map}
+use lib.ListN.{length, getD, set, drop, replicate, length-map}
 use lib.Seq.{getD-set-same, getD-set-other}
 use borrow.Author.Tests.{lt-ltb, le-ltb}
 use Rattle.value.specs.Value.{Value}
@@ -18,7 +18,7 @@ use Rattle.store.specs.Strides
 use Rattle.store.specs.Layout.{sizes, cellIn, putCell, relationLimit, rowLimit, columnLimit, area, OnlyCells}
 use Rattle.store.specs.Rows.{listed, rowIn, rowsIn, putCells, putRow, rowOf, withValue}
 use Rattle.store.specs.declared.Row.{Row as Values}
-use Rattle.store.proofs.Listed.{listed-same, length-listed, getD-listed, set-last, set-listed, map-set}
+use Rattle.store.proofs.Listed.{listed-same, length-listed, getD-listed, set-last, set-listed, drop-set, map-set}
 use Rattle.store.proofs.StrideLaws
 
 -- ---- reading
@@ -59,6 +59,15 @@ put-length = StrideLaws.put-length sizes
 pub put-other : (work : List ℤ) (r i w : ℕ) (row : Row) (r′ w′ n′ : ℕ) → (r′ ≡ r → ⊥) → rowsIn (putRow work r i w row) r′ w′ n′ ≡ rowsIn work r′ w′ n′
 unfolding rowsIn
 put-other = StrideLaws.put-other sizes
+
+-- every cell of another relation or row keeps, and the row is there
+pub put-keeps : (work : List ℤ) (r i w : ℕ) (row : Row) (r′ i′ c′ : ℕ) → (r′ ≡ r → i′ ≡ i → ⊥) → cellIn (putRow work r i w row) r′ i′ c′ ≡ cellIn work r′ i′ c′
+put-keeps = StrideLaws.put-keeps sizes
+
+pub put-row : (work : List ℤ) (r i w : ℕ) (row : Row) → r < relationLimit → i < rowLimit → w ≤ columnLimit → area ≤ length work → length row ≡ w
+    → rowIn (putRow work r i w row) r w i ≡ row
+unfolding rowIn
+put-row = StrideLaws.put-row sizes
 
 -- the relation grows by the row
 pub put-grows : (work : List ℤ) (r n w : ℕ) (row : Row) → r < relationLimit → n < rowLimit → w ≤ columnLimit → area ≤ length work → length row ≡ w
@@ -113,6 +122,11 @@ with-set row c v w h l =
     rw (lt-ltb c columnLimit h, map-set valueOf (row .values) c v)
     (set-listed (λ k. getD vs k missing) (λ k. getD (set vs c (valueOf v)) k missing) w c (valueOf v)
     (getD-set-same vs c (valueOf v) missing (rw length-map l)) (λ k n. getD-set-other vs c k (valueOf v) missing n))
+
+-- a column and those behind it
+pub with-from : (row : Row) (c : ℕ) (v : Value) → c < columnLimit → c < length row → drop c (withValue row c v) ≡ v ∷ drop (suc c) row
+unfolding withValue
+with-from row c v h l = rw (lt-ltb c columnLimit h) (drop-set row c v l)
 
 pub with-past : (row : Row) (c : ℕ) (v : Value) → columnLimit ≤ c → withValue row c v ≡ row
 unfolding withValue

@@ -184,7 +184,7 @@ module _ (s : Sizes) where
   put-none work r i w row e = rw e
 
   -- every cell of another relation or row keeps
-  put-keeps : (work : List ℤ) (r i w : ℕ) (row : Row) (r′ i′ c′ : ℕ) → (r′ ≡ r → i′ ≡ i → ⊥) → cellIn s (putRow s work r i w row) r′ i′ c′ ≡ cellIn s work r′ i′ c′
+  pub put-keeps : (work : List ℤ) (r i w : ℕ) (row : Row) (r′ i′ c′ : ℕ) → (r′ ≡ r → i′ ≡ i → ⊥) → cellIn s (putRow s work r i w row) r′ i′ c′ ≡ cellIn s work r′ i′ c′
   unfolding putRow
   put-keeps work r i w row r′ i′ c′ h = by-test (room s work r i w) (λ e. rw e (put-cells-other work r i w row r′ i′ c′ h)) (λ e. rw e)
 
