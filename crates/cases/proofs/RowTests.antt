@@ -3,6 +3,7 @@ use mathlib.Core.Path.{_≡_, refl, sym, ap, ap₂, _∙_}
 use mathlib.Core.Bool.{Bool, true, false, _&&_, _||_, and-false, or-true}
 use mathlib.Core.List.{List, [], _∷_, _++_}
 use Prim.Native.Nat.{ℕ, zero, suc, _+_, _<_}
+use native.Mathlib.Numerals.{add-one}
 use native.Mathlib.Omega.{arith}
 use lib.Dec.{eqb}
 use lib.IntN.{ℤ}
@@ -14,6 +15,7 @@ use Rattle.meaning.specs.Syntax.{Row}
 use Rattle.meaning.proofs.ListSteps.{all-snoc}
 use Rattle.store.specs.Rows.{rowIn, rowsIn}
 use Rattle.store.proofs.RowLaws.{rows-none, rows-more}
+use Rattle.cases.specs.Validity.{allBelow, anyBelow}
 
 -- ---- one element more at the end
 
@@ -28,42 +30,79 @@ module _ {A : Type 0} where
   pairwise-snoc p (y ∷ l) x =
       ap₂ (λ (a b : Bool). a && b) (all-snoc (p y) l x) (pairwise-snoc p l x) ∙ and-cross (all (p y) l) (p y x) (pairwise p l) (all (λ z. p z x) l)
 
+-- ---- numbers below another, one more each time
+
+module _ (p : ℕ → Bool) where
+  pub all-below-none : allBelow p 0 ≡ true
+  unfolding allBelow
+  all-below-none = refl
+
+  pub all-below-next : (n : ℕ) → allBelow p n ≡ true → p n ≡ true → allBelow p (n + 1) ≡ true
+  unfolding allBelow
+  all-below-next n e f = rw (add-one, e) f
+
+  pub all-below-whole : (n m : ℕ) → m ≡ n → allBelow p m ≡ true → allBelow p n ≡ true
+  all-below-whole n m e h = rw (← e) h
+
+  -- one that fails
+  pub all-below-stops : (n i : ℕ) → i < n → p i ≡ false → allBelow p n ≡ false
+  unfolding allBelow
+  all-below-stops zero i h f = absurd (omega arith)
+  all-below-stops (suc n) i h f = by-test (eqb i n)
+      (λ q. ap (λ b. allBelow p n && b) (ap p (sym (eqb-true i n q)) ∙ f) ∙ and-false (allBelow p n))
+      (λ q. rw (all-below-stops n i (omega (arith, eqb-false i n q)) f))
+
+  pub any-below-none : anyBelow p 0 ≡ false
+  unfolding anyBelow
+  any-below-none = refl
+
+  pub any-below-next : (n : ℕ) → anyBelow p n ≡ false → p n ≡ false → anyBelow p (n + 1) ≡ false
+  unfolding anyBelow
+  any-below-next n e f = rw (add-one, e) f
+
+  pub any-below-whole : (n m : ℕ) → m ≡ n → anyBelow p m ≡ false → anyBelow p n ≡ false
+  any-below-whole n m e h = rw (← e) h
+
+  -- one that passes
+  pub any-below-found : (n i : ℕ) → i < n → p i ≡ true → anyBelow p n ≡ true
+  unfolding anyBelow
+  any-below-found zero i h f = absurd (omega arith)
+  any-below-found (suc n) i h f = by-test (eqb i n)
+      (λ q. ap (λ b. anyBelow p n || b) (ap p (sym (eqb-true i n q)) ∙ f) ∙ or-true (anyBelow p n))
+      (λ q. rw (any-below-found n i (omega (arith, eqb-false i n q)) f))
+
 -- ---- the rows of a relation
 
 module _ (work : List ℤ) (r w : ℕ) where
-  pub all-none : (p : Row → Bool) → all p (rowsIn work r w 0) ≡ true
-  all-none p = ap (all p) (rows-none work r w)
+  -- a test of each row, by its number
+  pub all-rows : (p : ℕ → Bool) (q : Row → Bool) → ((i : ℕ) → p i ≡ q (rowIn work r w i)) → (n : ℕ) → allBelow p n ≡ all q (rowsIn work r w n)
+  unfolding allBelow
+  all-rows p q e zero = sym (ap (all q) (rows-none work r w))
+  all-rows p q e (suc n) =
+      ap₂ (λ (a b : Bool). a && b) (all-rows p q e n) (e n) ∙ sym (ap (all q) (rows-more work r w n) ∙ all-snoc q (rowsIn work r w n) (rowIn work r w n))
 
-  all-next : (p : Row → Bool) (n : ℕ) → all p (rowsIn work r w (suc n)) ≡ (all p (rowsIn work r w n) && p (rowIn work r w n))
-  all-next p n = ap (all p) (rows-more work r w n) ∙ all-snoc p (rowsIn work r w n) (rowIn work r w n)
+  pub any-rows : (p : ℕ → Bool) (q : Row → Bool) → ((i : ℕ) → p i ≡ q (rowIn work r w i)) → (n : ℕ) → anyBelow p n ≡ any q (rowsIn work r w n)
+  unfolding anyBelow
+  any-rows p q e zero = sym (ap (any q) (rows-none work r w))
+  any-rows p q e (suc n) =
+      ap₂ (λ (a b : Bool). a || b) (any-rows p q e n) (e n) ∙ sym (ap (any q) (rows-more work r w n) ∙ any-snoc q (rowsIn work r w n) (rowIn work r w n))
 
-  pub all-step : (p : Row → Bool) (n : ℕ) → all p (rowsIn work r w n) ≡ true → p (rowIn work r w n) ≡ true → all p (rowsIn work r w (n + 1)) ≡ true
-  all-step p n e f = let s : n + 1 ≡ suc n = omega arith in rw s (all-next p n ∙ rw (e, f))
+  module _ (p : Row → Bool) where
+    abbrev numbered : ℕ → Bool
+    numbered i = p (rowIn work r w i)
 
-  -- one row that fails
-  pub all-stops : (p : Row → Bool) (n i : ℕ) → i < n → p (rowIn work r w i) ≡ false → all p (rowsIn work r w n) ≡ false
-  all-stops p zero i h f = absurd (omega arith)
-  all-stops p (suc n) i h f = all-next p n ∙ by-test (eqb i n)
-      (λ q. let z : i ≡ n = eqb-true i n q in
-      ap (λ b. all p (rowsIn work r w n) && b) (ap (λ k. p (rowIn work r w k)) (sym z) ∙ f) ∙ and-false (all p (rowsIn work r w n)))
-      (λ q. rw (all-stops p n i (omega (arith, eqb-false i n q)) f))
+    by-number : (n : ℕ) → allBelow numbered n ≡ all p (rowsIn work r w n)
+    by-number = all-rows numbered p (λ i. refl)
 
-  pub any-none : (p : Row → Bool) → any p (rowsIn work r w 0) ≡ false
-  any-none p = ap (any p) (rows-none work r w)
+    pub all-none : all p (rowsIn work r w 0) ≡ true
+    all-none = sym (by-number 0) ∙ all-below-none numbered
 
-  any-next : (p : Row → Bool) (n : ℕ) → any p (rowsIn work r w (suc n)) ≡ (any p (rowsIn work r w n) || p (rowIn work r w n))
-  any-next p n = ap (any p) (rows-more work r w n) ∙ any-snoc p (rowsIn work r w n) (rowIn work r w n)
+    pub all-step : (n : ℕ) → all p (rowsIn work r w n) ≡ true → p (rowIn work r w n) ≡ true → all p (rowsIn work r w (n + 1)) ≡ true
+    all-step n e f = sym (by-number (n + 1)) ∙ all-below-next numbered n (by-number n ∙ e) f
 
-  pub any-step : (p : Row → Bool) (n : ℕ) → any p (rowsIn work r w n) ≡ false → p (rowIn work r w n) ≡ false → any p (rowsIn work r w (n + 1)) ≡ false
-  any-step p n e f = let s : n + 1 ≡ suc n = omega arith in rw s (any-next p n ∙ rw (e, f))
-
-  -- one row that passes
-  pub any-found : (p : Row → Bool) (n i : ℕ) → i < n → p (rowIn work r w i) ≡ true → any p (rowsIn work r w n) ≡ true
-  any-found p zero i h f = absurd (omega arith)
-  any-found p (suc n) i h f = any-next p n ∙ by-test (eqb i n)
-      (λ q. let z : i ≡ n = eqb-true i n q in
-      ap (λ b. any p (rowsIn work r w n) || b) (ap (λ k. p (rowIn work r w k)) (sym z) ∙ f) ∙ or-true (any p (rowsIn work r w n)))
-      (λ q. rw (any-found p n i (omega (arith, eqb-false i n q)) f))
+    -- one row that fails
+    pub all-stops : (n i : ℕ) → i < n → p (rowIn work r w i) ≡ false → all p (rowsIn work r w n) ≡ false
+    all-stops n i h f = sym (by-number n) ∙ all-below-stops numbered n i h f
 
   pub pairwise-none : (p : Row → Row → Bool) → pairwise p (rowsIn work r w 0) ≡ true
   pairwise-none p = ap (pairwise p) (rows-none work r w)

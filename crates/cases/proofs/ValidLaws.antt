@@ -18,7 +18,8 @@ use Rattle.language.specs.Frames.{noTable}
 use Rattle.catalog.specs.FileIn.{Source, FileIn}
 use Rattle.catalog.proofs.FileLaws.{columns-are}
 use Rattle.cases.specs.TablesIn.{TablesIn}
-use Rattle.cases.specs.Validity.{ForeignsHeld, KeysHeld, IsValid}
+use Rattle.cases.specs.Validity.{KeysHeld, foreignKeysIn, IsValid}
+use Rattle.cases.proofs.ForeignLaws.{foreigns-told}
 
 valid-is : (F : File) (d : Database) → Shaped F d → valid F d ≡ (each keyHolds (F .tables) d && all (foreignKeyHolds d) (F .keys))
 unfolding valid
@@ -42,11 +43,11 @@ module _ {source : Source} {counts : List ℕ} {work : List ℤ} where
         sym (valid-is F d sh ∙ ap (λ b. b && all (foreignKeyHolds d) (F .keys)) (sym (keys-told k G sh s) ∙ z));
   }
 
-  pub valid-both : {q r : Bool} → KeysHeld (source .shape) counts work (source .outline .tables) q → q ≡ true → ForeignsHeld (source .bytes) (source .outline .foreign) (source .outline .keys) counts work r
+  pub valid-both : {q r : Bool} → KeysHeld (source .shape) counts work (source .outline .tables) q → q ≡ true → r ≡ foreignKeysIn (source .bytes) (source .outline .foreign) (source .outline .keys) counts work
       → IsValid source counts work r
   valid-both k z f = record {
     is-valid = λ {F} {d} G sh s.
         let (rest, e) = G .foreign in
-        f .hold F d (F .keys) rest e (sym (G .keys)) (G .legal .keys) s
+        f ∙ foreigns-told F d (source .bytes) (source .outline .foreign) (source .outline .keys) counts work (F .keys) rest e (G .keys) (G .legal .keys) s
         ∙ sym (valid-is F d sh ∙ ap (λ b. b && all (foreignKeyHolds d) (F .keys)) (sym (keys-told k G sh s) ∙ z));
   }

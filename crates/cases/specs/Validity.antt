@@ -1,20 +1,23 @@
 -- What the tests of keys give. Assumes nothing: these are definitions.
 use mathlib.Core.Path.{_≡_}
-use mathlib.Core.Bool.{Bool}
-use mathlib.Core.List.{List, _++_, map}
-use Prim.Native.Nat.{ℕ, _<_}
+use mathlib.Core.Bool.{Bool, true, false, _&&_, _||_}
+use mathlib.Core.List.{List}
+use Prim.Native.Nat.{ℕ, zero, suc, _+_, _<_}
+use lib.Dec.{ltb}
 use lib.IntN.{ℤ}
-use lib.ListN.{length, drop}
-use Rattle.text.specs.Answers.{pack}
-use Rattle.value.specs.Bag.{All}
-use Rattle.meaning.specs.Lists.{all, any, each}
-use Rattle.meaning.specs.Syntax.{Table, Pair, ForeignKey, File, Database}
+use lib.ListN.{length, getD}
+use Rattle.value.specs.Value.{valueTest}
+use Rattle.meaning.specs.Lists.{all, each}
+use Rattle.meaning.specs.Syntax.{Table, File, Database}
 use Rattle.meaning.specs.Valid.{Shaped}
-use Rattle.meaning.specs.Decided.{differ, keyHolds, agrees, foreignKeyHolds, valid}
-use Rattle.language.specs.Legal.{LegalKey, LegalPair, tableAt}
-use Rattle.language.specs.Written.{maskOf, pairsBytes, keyBytes}
+use Rattle.meaning.specs.Decided.{differ, keyHolds, valid}
+use Rattle.language.specs.Legal.{tableAt}
+use Rattle.language.specs.Written.{maskOf}
 use Rattle.catalog.specs.Arrays.{widthAt, maskAt}
 use Rattle.catalog.specs.FileIn.{Source, FileIn}
+use Rattle.catalog.specs.Frames.{frameAt, keyPartsIn}
+use Rattle.catalog.specs.declared.frames.KeyParts.{KeyParts}
+use Rattle.store.specs.Layout.{cellIn}
 use Rattle.store.specs.Rows.{rowIn, rowsIn}
 use Rattle.cases.specs.TablesIn.{TablesIn}
 
@@ -37,24 +40,45 @@ pub record KeysHeld (shape counts : List ℕ) (work : List ℤ) (tables : ℕ) (
       → ((t : ℕ) → t < tables → maskAt shape t ≡ maskOf (tableAt (F .tables) t .key))
       → TablesIn F d counts work → r ≡ each keyHolds (F .tables) d
 
--- ---- foreign keys: of every key that the bytes say
+-- ---- foreign keys: on any bytes, 0 past the end of a frame
 
--- the columns of the rows are those of a child of c columns and a parent of p
-pub record Agreed (bytes : List ℕ) (at count : ℕ) (work : List ℤ) (child i parent j : ℕ) (r : Bool) : Type 0 where
-  pub agrees-on : (ps : List Pair) (rest : List ℕ) → drop at bytes ≡ pairsBytes ps ++ rest → length ps ≡ count → (c p : ℕ) → All (LegalPair c p) ps
-      → r ≡ agrees ps (rowIn work child c i) (rowIn work parent p j)
+-- a test of each number below n, and of some
+unfoldable pub allBelow : (ℕ → Bool) → ℕ → Bool
+allBelow p zero = true
+allBelow p (suc n) = allBelow p n && p n
 
-pub record HasParent (bytes : List ℕ) (at count : ℕ) (work : List ℤ) (child i parent rows : ℕ) (r : Bool) : Type 0 where
-  pub parent-is : (ps : List Pair) (rest : List ℕ) → drop at bytes ≡ pairsBytes ps ++ rest → length ps ≡ count → (c p : ℕ) → All (LegalPair c p) ps
-      → r ≡ any (agrees ps (rowIn work child c i)) (rowsIn work parent p rows)
+unfoldable pub anyBelow : (ℕ → Bool) → ℕ → Bool
+anyBelow p zero = false
+anyBelow p (suc n) = anyBelow p n || p n
 
-pub record ForeignHeld (frame counts : List ℕ) (work : List ℤ) (r : Bool) : Type 0 where
-  pub holds : (F : File) (d : Database) (k : ForeignKey) → frame ≡ keyBytes k → LegalKey (F .tables) k → TablesIn F d counts work
-      → r ≡ foreignKeyHolds d k
+-- n things stand one behind the other from a place on, and each passes a test; false where the bytes end before one of them
+unfoldable pub allFrom : List ℕ → (ℕ → Bool) → (ℕ → ℕ) → ℕ → ℕ → Bool
+allFrom bytes p next at zero = true
+allFrom bytes p next at (suc n) = ltb at (length bytes) && (p at && allFrom bytes p next (next at) n)
 
-pub record ForeignsHeld (bytes : List ℕ) (at keys : ℕ) (counts : List ℕ) (work : List ℤ) (r : Bool) : Type 0 where
-  pub hold : (F : File) (d : Database) (ks : List ForeignKey) (rest : List ℕ) → drop at bytes ≡ pack (map keyBytes ks) ++ rest → length ks ≡ keys
-      → All (LegalKey (F .tables)) ks → TablesIn F d counts work → r ≡ all (foreignKeyHolds d) ks
+-- the pair of columns at a place has one value in row i of the child and in row j of the parent
+unfoldable pub pairAgrees : List ℕ → List ℤ → ℕ → ℕ → ℕ → ℕ → ℕ → Bool
+pairAgrees frame work child i parent j at =
+    valueTest .same (cellIn work child i (getD frame at 0)) (cellIn work parent j (getD frame (at + 1) 0))
+
+-- all pairs of the key do
+abbrev pub agreesIn : List ℕ → KeyParts → List ℤ → ℕ → ℕ → Bool
+agreesIn frame key work i j = allFrom frame (pairAgrees frame work (key .child) i (key .parent) j) (λ at. at + 2) (key .pairs) (key .count)
+
+-- one of the parent's rows agrees with row i of the child
+abbrev pub hasParentIn : List ℕ → KeyParts → List ℤ → ℕ → ℕ → Bool
+hasParentIn frame key work rows i = anyBelow (agreesIn frame key work i) rows
+
+-- each row of the child has a parent
+unfoldable pub foreignKeyIn : List ℕ → List ℕ → List ℤ → Bool
+foreignKeyIn frame counts work =
+    let key = keyPartsIn frame in
+    allBelow (hasParentIn frame key work (getD counts (key .parent) 0)) (getD counts (key .child) 0)
+
+-- each of the keys whose frames stand at a place
+abbrev pub foreignKeysIn : List ℕ → ℕ → ℕ → List ℕ → List ℤ → Bool
+foreignKeysIn bytes at keys counts work =
+    allFrom bytes (λ next. foreignKeyIn (frameAt bytes next) counts work) (λ next. next + 1 + length (frameAt bytes next)) at keys
 
 -- ---- the whole
 

@@ -3,8 +3,9 @@ use catalog::arrays;
 use catalog::frames;
 use catalog::frames::KeyParts;
 use catalog::outline::Outline;
+ghost use mathlib.Core.Path.{_≡_};
 ghost use Rattle.catalog.specs.FileIn.{sourceFrom};
-ghost use Rattle.cases.specs.Validity.{Differs, DiffersFromEarlier, KeyHeld, KeysHeld, Agreed, HasParent, ForeignHeld, ForeignsHeld, IsValid};
+ghost use Rattle.cases.specs.Validity.{Differs, DiffersFromEarlier, KeyHeld, KeysHeld, agreesIn, hasParentIn, foreignKeyIn, foreignKeysIn, IsValid};
 
 // Whether two rows of a table differ in some column of the key.
 fn differ(work: &[i32], table: u8, i: u8, j: u8, width: u8, mask: u8) -> bool
@@ -73,9 +74,10 @@ pub fn keys_hold(shape: &[u8], counts: &[u8], work: &[i32], tables: u8) -> bool
     true
 }
 
-// Whether row j of the parent agrees with row i of the child on all pairs of columns of the key with this frame.
+// Whether row j of the parent agrees with row i of the child on all pairs of columns of the key with this frame; false where the frame ends
+// before a pair.
 fn agrees(frame: &[u8], key: KeyParts, work: &[i32], i: u8, j: u8) -> bool
-    ensures { λ r. ⌜ Agreed (now (frame .entry)) (key .pairs) (key .count) (now (work .entry)) (key .child) i (key .parent) j r ⌝ }
+    ensures { λ r. ⌜ r ≡ agreesIn (now (frame .entry)) key (now (work .entry)) i j ⌝ }
 {
     let count = key.count;
     let child = key.child;
@@ -101,7 +103,7 @@ fn agrees(frame: &[u8], key: KeyParts, work: &[i32], i: u8, j: u8) -> bool
 
 // Whether one of the parent's rows agrees with row i of the child.
 fn has_parent(frame: &[u8], key: KeyParts, work: &[i32], i: u8, rows: u8) -> bool
-    ensures { λ r. ⌜ HasParent (now (frame .entry)) (key .pairs) (key .count) (now (work .entry)) (key .child) i (key .parent) rows r ⌝ }
+    ensures { λ r. ⌜ r ≡ hasParentIn (now (frame .entry)) key (now (work .entry)) rows i ⌝ }
 {
     let mut j: u8 = 0;
     while j < rows {
@@ -115,7 +117,7 @@ fn has_parent(frame: &[u8], key: KeyParts, work: &[i32], i: u8, rows: u8) -> boo
 
 // Whether each child row of the foreign key of this frame has a parent row.
 fn foreign_key_holds(frame: &[u8], counts: &[u8], work: &[i32]) -> bool
-    ensures { λ r. ⌜ ForeignHeld (now (frame .entry)) (now (counts .entry)) (now (work .entry)) r ⌝ }
+    ensures { λ r. ⌜ r ≡ foreignKeyIn (now (frame .entry)) (now (counts .entry)) (now (work .entry)) ⌝ }
 {
     let key = frames::key_parts(frame);
     let children = slice::byte_at(counts, key.child as usize);
@@ -130,10 +132,10 @@ fn foreign_key_holds(frame: &[u8], counts: &[u8], work: &[i32]) -> bool
     true
 }
 
-// Whether each of `keys` foreign keys holds; their frames stand at `at`, each behind its length.
-// Refused: the first key alone; a frame's length left out of what is passed.
+// Whether each of `keys` foreign keys holds; their frames stand at `at`, each behind its length. False where the bytes end before a frame.
+// Refused: the first key alone; a frame's length left out of what is passed; keys behind the end of the bytes.
 pub fn foreign_keys_hold(bytes: &[u8], at: usize, keys: u8, counts: &[u8], work: &[i32]) -> bool
-    ensures { λ r. ⌜ ForeignsHeld (now (bytes .entry)) at keys (now (counts .entry)) (now (work .entry)) r ⌝ }
+    ensures { λ r. ⌜ r ≡ foreignKeysIn (now (bytes .entry)) at keys (now (counts .entry)) (now (work .entry)) ⌝ }
 {
     let mut next = at;
     let mut k: u8 = 0;

@@ -8,7 +8,7 @@ pub struct Goal {
 }
 
 // Number 0: the packed frames of a file, what is known of each relation, the goal and the number of candidates. Any other number: a
-// refusal with its line.
+// refusal with its line, beside which every other field is 0.
 pub struct Plan {
     pub number: u8,
     pub line: u16,

@@ -37,7 +37,7 @@ use Rattle.catalog.specs.declared.plan.Plan.{Plan}
 use Rattle.catalog.proofs.FileLaws.{table-schema, tables-in, schema-kept}
 use Rattle.checker.specs.CandidateCount.{tooMany, CandidatesOf}
 use Rattle.checker.specs.Standing.{DraftIn, startProgress}
-use Rattle.checker.specs.Plans.{WalkedTo, Walks, startFrom, frameNumber, PlanFrom, Plans, PlansWhole}
+use Rattle.checker.specs.Plans.{WalkedTo, Walks, startFrom, frameNumber, PlanFrom, refusedPlan, Plans, PlansWhole}
 use Rattle.checker.specs.declared.plan.Walked.{Walked}
 use Rattle.checker.specs.declared.state.Progress.{Progress}
 use Rattle.checker.proofs.EntryLaws.{none-entered}
@@ -62,10 +62,14 @@ finished-some d g e c t = rw (e, t)
 
 -- ---- the ways that a check ends
 
-pub plan-refused : (text : List ℕ) (r : Frames) (p : Plan) → framesOf text ≡ Lines.refused (r .number) (r .line) → (r .number ≡ 0 → ⊥) → p .number ≡ r .number
-    → p .line ≡ r .line → Plans (fileOf text) p
+refused-plan : {p : Plan} (n line : ℕ) → p ≡ refusedPlan n line → (n ≡ 0 → ⊥) → Plans (Outcome.refused n line) p
+unfolding refusedPlan
+refused-plan n line e nz = (ap (λ (q : Plan). q .number) e, ap (λ (q : Plan). q .line) e, nz, e)
+
+pub plan-refused : (text : List ℕ) (r : Frames) (p : Plan) → framesOf text ≡ Lines.refused (r .number) (r .line) → (r .number ≡ 0 → ⊥)
+    → p ≡ refusedPlan (r .number) (r .line) → Plans (fileOf text) p
 unfolding fileOf
-plan-refused text r p e nz a b = rw e (a, b, nz)
+plan-refused text r p e nz a = rw e (refused-plan (r .number) (r .line) a nz)
 
 module _ (text : List ℕ) (r : Frames) (fs : List (List ℕ)) (e : framesOf text ≡ Lines.frames fs) (h : Holds fs r) (w : Walked) (shape : List ℕ) (ends : List ℤ)
     (t : WalkedTo (reach fs empty 1) w shape ends) where
@@ -73,11 +77,11 @@ module _ (text : List ℕ) (r : Frames) (fs : List (List ℕ)) (e : framesOf tex
   unfolding fileOf
   outcome = ap outcomeOf e
 
-  pub plan-stopped : (p : Plan) → (w .number ≡ 0 → ⊥) → p .number ≡ w .number → p .line ≡ w .line → Plans (fileOf text) p
-  plan-stopped p nz a b = rw outcome (go (reach fs empty 1) t)
+  pub plan-stopped : (p : Plan) → (w .number ≡ 0 → ⊥) → p ≡ refusedPlan (w .number) (w .line) → Plans (fileOf text) p
+  plan-stopped p nz a = rw outcome (go (reach fs empty 1) t)
     where
       go : (x : Reached) → WalkedTo x w shape ends → Plans (concluded x) p
-      go (Reached.stopped n l) q = (a ∙ q .0, b ∙ q .1, q .2)
+      go (Reached.stopped n l) q = refused-plan n l (a ∙ ap₂ refusedPlan (q .0) (q .1)) (q .2)
       go (Reached.came d) q = absurd (nz (q .0))
 
   module _ (z : w .number ≡ 0) where
@@ -88,12 +92,12 @@ module _ (text : List ℕ) (r : Frames) (fs : List (List ℕ)) (e : framesOf tex
         go (Reached.stopped n l) q y = absurd (y .2 (sym (y .0) ∙ z))
         go (Reached.came d) q y = (d, q, y .1)
 
-    pub plan-without-goal : (p : Plan) → (w .state .stage ≡ 5 → ⊥) → p .number ≡ 3 → p .line ≡ 0 → Plans (fileOf text) p
-    plan-without-goal p nz a b =
+    pub plan-without-goal : (p : Plan) → (w .state .stage ≡ 5 → ⊥) → p ≡ refusedPlan 3 0 → Plans (fileOf text) p
+    plan-without-goal p nz a =
         let (d, q, held) = came-to in
         let g : d .goal ≡ none = goal-none (d .tables) (d .keys) (d .views) (d .goal) (λ x. nz (held .counts .stage-is ∙ x)) in
         let o : fileOf text ≡ Outcome.refused 3 0 = outcome ∙ ap concluded q ∙ ap (finished d) g in
-        rw o (a, b, λ x. omega arith)
+        rw o (refused-plan 3 0 a (λ x. omega arith))
 
     -- the draft with its goal, and its number of candidates
     record Ready (n : ℕ) : Type 0 where
@@ -161,13 +165,13 @@ module _ (text : List ℕ) (r : Frames) (fs : List (List ℕ)) (e : framesOf tex
         }
 
     pub plan-too-large : (n : ℕ) (p : Plan) → w .state .stage ≡ 5 → CandidatesOf shape ends (w .state .tables) n → n ≡ tooMany
-        → p .number ≡ 10 → p .line ≡ 0 → Plans (fileOf text) p
-    plan-too-large n p five c big a b =
+        → p ≡ refusedPlan 10 0 → Plans (fileOf text) p
+    plan-too-large n p five c big a =
         let k = ready n five c in
         let N = candidates (fileAt (k .draft-is) (k .goal-is)) in
         let above : candidateLimit < N = omega (arith, k .number-is) in
         let o : fileOf text ≡ Outcome.refused 10 0 = k .concluded-is ∙ finished-some (k .draft-is) (k .goal-is) (k .named) false (lt-leb N candidateLimit above) in
-        rw o (a, b, λ x. omega arith)
+        rw o (refused-plan 10 0 a (λ x. omega arith))
 
     pub plan-done : (n : ℕ) (p : Plan) → PlanFrom (r .bytes) (w .state) shape ends n p → w .state .stage ≡ 5 → CandidatesOf shape ends (w .state .tables) n
         → (n ≡ tooMany → ⊥) → Plans (fileOf text) p
@@ -194,17 +198,17 @@ pub held-start : DraftIn empty startProgress (replicate 128 0) (replicate 256 (p
 held-start = record { counts = counts-empty; catalogued = none-entered (replicate 128 0) (replicate 256 (pos 0)) refl refl (λ k. getD-all 128 k 0); fits = fits-empty }
 
 module _ (bytes : List ℕ) {s : Progress} (shape : List ℕ) (ends : List ℤ) (p : Plan) where
-  pub whole-without-goal : (s .stage ≡ 5 → ⊥) → (p .number ≡ 3) × (p .line ≡ 0) → PlansWhole bytes s shape ends p
+  pub whole-without-goal : (s .stage ≡ 5 → ⊥) → p ≡ refusedPlan 3 0 → PlansWhole bytes s shape ends p
   whole-without-goal nz a = record {
-    plans = λ text fs r w e h b t z q. plan-without-goal text r fs e h w shape ends t z p (λ x. nz (ap (λ (y : Progress). y .stage) (sym q) ∙ x)) (a .0) (a .1);
+    plans = λ text fs r w e h b t z q. plan-without-goal text r fs e h w shape ends t z p (λ x. nz (ap (λ (y : Progress). y .stage) (sym q) ∙ x)) a;
   }
 
   module _ {n : ℕ} (five : s .stage ≡ 5) (c : CandidatesOf shape ends (s .tables) n) where
-    pub whole-too-large : n ≡ tooMany → (p .number ≡ 10) × (p .line ≡ 0) → PlansWhole bytes s shape ends p
+    pub whole-too-large : n ≡ tooMany → p ≡ refusedPlan 10 0 → PlansWhole bytes s shape ends p
     whole-too-large big a = record {
       plans = λ text fs r w e h b t z q.
           plan-too-large text r fs e h w shape ends t z n p (ap (λ (y : Progress). y .stage) q ∙ five)
-          (subst (λ (y : Progress). CandidatesOf shape ends (y .tables) n) (sym q) c) big (a .0) (a .1);
+          (subst (λ (y : Progress). CandidatesOf shape ends (y .tables) n) (sym q) c) big a;
     }
 
     pub whole-done : (n ≡ tooMany → ⊥) → PlanFrom bytes s shape ends n p → PlansWhole bytes s shape ends p
@@ -226,8 +230,8 @@ module _ (text : List ℕ) (r : Frames) (dec : Decoded (framesOf text) r) (z : r
 
   module _ {w : Walked} {shape : List ℕ} {ends : List ℤ} (p : Plan)
       (k : Walks (take (r .used) (r .bytes)) (replicate 128 0) (replicate 256 (pos 0)) w shape ends) where
-    pub way-stopped : (w .number ≡ 0 → ⊥) → (p .number ≡ w .number) × (p .line ≡ w .line) → Plans (fileOf text) p
-    way-stopped nz a = let (fs, e, h) = accepted text r dec z in plan-stopped text r fs e h w shape ends (k .walked fs (h .packed) held-start) p nz (a .0) (a .1)
+    pub way-stopped : (w .number ≡ 0 → ⊥) → p ≡ refusedPlan (w .number) (w .line) → Plans (fileOf text) p
+    way-stopped nz a = let (fs, e, h) = accepted text r dec z in plan-stopped text r fs e h w shape ends (k .walked fs (h .packed) held-start) p nz a
 
     pub way-whole : w .number ≡ 0 → PlansWhole (r .bytes) (w .state) shape ends p → Plans (fileOf text) p
     way-whole y c = let (fs, e, h) = accepted text r dec z in c .plans text fs r w e h refl (k .walked fs (h .packed) held-start) y refl

@@ -1,11 +1,11 @@
 -- The plan of a checked file: what a text gives, in the checker's arrays and counts. Assumes nothing: these are definitions.
 use mathlib.Core.Path.{_≡_}
-use mathlib.Core.Bool.{cond}
+use mathlib.Core.Bool.{false, cond}
 use mathlib.Core.List.{List}
 use Prim.Native.Nat.{ℕ, zero, suc, _+_, _<_}
 use lib.Dec.{ltb}
-use lib.IntN.{ℤ}
-use lib.ListN.{length, getD}
+use lib.IntN.{ℤ, pos}
+use lib.ListN.{length, getD, replicate}
 use Rattle.text.specs.Text.{Lines, framesOf}
 use Rattle.text.specs.Answers.{pack, Holds}
 use Rattle.text.specs.declared.Frames.{Frames}
@@ -66,8 +66,21 @@ pub record PlanFrom (bytes : List ℕ) (s : Progress) (shape : List ℕ) (ends :
   pub goal : p .goal ≡ record { view = s .goal; negative = s .negative }
   pub candidates-are : p .candidates ≡ n
 
+-- a refusal: every field beside its number and its line is 0
+unfoldable pub refusedPlan : ℕ → ℕ → Plan
+refusedPlan n line = record {
+  number = n;
+  line = line;
+  bytes = replicate 5462 0;
+  shape = replicate 128 0;
+  ends = replicate 256 (pos 0);
+  outline = record { tables = 0; keys = 0; relations = 0; foreign = 0; filled = false };
+  goal = record { view = 0; negative = false };
+  candidates = 0;
+}
+
 abbrev pub Plans : Outcome → Plan → Type 0
-Plans (Outcome.refused n line) p = (p .number ≡ n) × (p .line ≡ line) × (n ≡ 0 → ⊥)
+Plans (Outcome.refused n line) p = (p .number ≡ n) × (p .line ≡ line) × (n ≡ 0 → ⊥) × (p ≡ refusedPlan n line)
 Plans (Outcome.accepted F) p = PlanOf F p
 
 -- the plan of a text whose frames, packed in these bytes, were all walked without fault

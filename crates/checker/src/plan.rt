@@ -14,7 +14,7 @@ ghost use mathlib.Core.Path.{_≡_};
 ghost use Prim.Native.Nat.{_≤_};
 ghost use lib.ListN.{length};
 ghost use Rattle.language.specs.FileOf.{fileOf};
-ghost use Rattle.checker.specs.Plans.{Walks, startFrom, frameNumber, StartsPut, OutlineFrom, PlanFrom, Plans, PlansWhole};
+ghost use Rattle.checker.specs.Plans.{Walks, startFrom, frameNumber, StartsPut, OutlineFrom, PlanFrom, refusedPlan, Plans, PlansWhole};
 
 // How far the frames are taken.
 struct Walked {
@@ -134,7 +134,7 @@ fn plan_from(
 }
 
 fn refusal(number: u8, line: u16) -> Plan
-    ensures { λ r. ⌜ (r .number ≡ number) × (r .line ≡ line) ⌝ }
+    ensures { λ r. ⌜ r ≡ refusedPlan number line ⌝ }
 {
     let outline = Outline {
         tables: 0,

@@ -23,7 +23,7 @@ pub struct Progress {
 }
 
 // Before the first frame.
-// Refused: goal 1; the stage of foreign keys.
+// Refused: a table counted; the stage of foreign keys.
 pub fn start() -> Progress
     ensures { λ r. ⌜ r ≡ startProgress ⌝ }
 {

@@ -1,24 +1,25 @@
 -- `cases::validity::agrees` meets its contract. Assumes nothing.
-use mathlib.Core.Path.{sym, _∙_}
-use Prim.Native.Nat.{_-_, _≤_}
+use mathlib.Core.Path.{_∙_}
+use Prim.Native.Nat.{_+_, _-_, _≤_}
 use native.Mathlib.Omega.{arith}
 use borrow.Author.Tests.{not-false, not-true}
 use borrow.Author.Needs.{needs}
-use Rattle.cases.proofs.ForeignLaws.{PairsFrom, pairs-first, pairs-inside, pairs-stop, pairs-next, pairs-whole}
+use Rattle.cases.specs.Validity.{pairAgrees}
+use Rattle.cases.proofs.ForeignLaws.{LeftFrom, left-first, left-ends, left-fails, left-passes, left-none, pair-is}
 use Rattle.cases.proofs.validity.agrees.Statement.{statement}
 use Rattle.cases.proofs.validity.agrees.Tie as tie
 
 abbrev Inv-loop : tie.InvT-loop
-Inv-loop frame work i j count child parent next₀ p₀ next p = (p ≤ count) × PairsFrom frame next₀ count work child i parent j next p
+Inv-loop frame work i j count child parent next₀ p₀ next p = (p ≤ count) × LeftFrom frame (pairAgrees frame work child i parent j) (λ at. at + 2) next₀ count next p
 
 abbrev μ-loop : tie.MeasureT-loop
 μ-loop frame work i j count child parent next₀ p₀ next p = count - p
 
 loop-holds : tie.Need-loop-holds Inv-loop μ-loop
-loop-holds c = (omega arith, pairs-first _ _ _ _ _ _ _ _)
+loop-holds c = (omega arith, left-first)
 
 returns : tie.Need-returns Inv-loop μ-loop
-returns c = pairs-inside _ _ _ _ _ _ _ _ (c .before .before .loop .inv .1) (c .before .loop-test .taken) (c .if1 .taken)
+returns c = left-ends (c .before .before .loop .inv .1) (c .before .loop-test .taken) (c .if1 .taken)
 
 byte-at-requires : tie.Need-byte-at-requires Inv-loop μ-loop
 byte-at-requires c κs = search needs
@@ -51,9 +52,9 @@ same-requires : tie.Need-same-requires Inv-loop μ-loop
 same-requires c κs = search needs
 
 returns-2 : tie.Need-returns-2 Inv-loop μ-loop
-returns-2 c = pairs-stop _ _ _ _ _ _ _ _ (c .before .before .before .before .before .before .before .before .loop .inv .1) (c .before .before .before .before .before .before .before .loop-test .taken)
-    (c .before .before .before .before .before .byte-at .ensures) (c .before .before .before .before .byte-at2 .ensures) (c .before .before .before .cell .ensures)
-    (c .before .before .cell2 .ensures) (sym (c .before .same .ensures) ∙ not-true _ (c .if2 .taken))
+returns-2 c = left-fails (c .before .before .before .before .before .before .before .before .loop .inv .1) (c .before .before .before .before .before .before .before .loop-test .taken)
+    (pair-is _ _ _ _ _ _ _ (c .before .before .before .before .before .byte-at .ensures) (c .before .before .before .before .byte-at2 .ensures) (c .before .before .before .cell .ensures)
+    (c .before .before .cell2 .ensures) (c .before .same .ensures) ∙ not-true _ (c .if2 .taken))
 
 add-next : tie.Need-add-next Inv-loop μ-loop
 add-next c = search needs
@@ -67,13 +68,13 @@ loop-less c = omega arith
 loop-again : tie.Need-loop-again Inv-loop μ-loop
 loop-again c = (
   omega arith,
-  pairs-next _ _ _ _ _ _ _ _ (c .before .before .before .before .before .before .before .before .loop .inv .1)
-      (c .before .before .before .before .before .before .before .loop-test .taken) (c .before .before .before .before .before .byte-at .ensures) (c .before .before .before .before .byte-at2 .ensures)
-      (c .before .before .before .cell .ensures) (c .before .before .cell2 .ensures) (sym (c .before .same .ensures) ∙ not-false _ (c .if2 .left)),
+  left-passes (c .before .before .before .before .before .before .before .before .loop .inv .1) (c .before .before .before .before .before .before .before .loop-test .taken) (omega arith)
+      (pair-is _ _ _ _ _ _ _ (c .before .before .before .before .before .byte-at .ensures) (c .before .before .before .before .byte-at2 .ensures) (c .before .before .before .cell .ensures)
+      (c .before .before .cell2 .ensures) (c .before .same .ensures) ∙ not-false _ (c .if2 .left)),
 )
 
 returns-3 : tie.Need-returns-3 Inv-loop μ-loop
-returns-3 c = pairs-whole _ _ _ _ _ _ _ _ (omega arith) (c .before .loop .inv .1)
+returns-3 c = left-none (omega arith) (c .before .loop .inv .1)
 
 pub agrees-spec : {M : Type 1} → statement M
 agrees-spec =

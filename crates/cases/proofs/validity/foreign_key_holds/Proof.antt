@@ -1,14 +1,18 @@
 -- `cases::validity::foreign_key_holds` meets its contract. Assumes nothing.
+use mathlib.Core.Path.{_≡_, sym, _∙_}
+use mathlib.Core.Bool.{true}
 use Prim.Native.Nat.{_-_, _≤_}
 use native.Mathlib.Omega.{arith}
 use borrow.Author.Tests.{not-false, not-true}
 use borrow.Author.Needs.{needs}
-use Rattle.cases.proofs.ForeignLaws.{ParentsTo, parents-none, parents-more, parents-stop, parents-whole}
+use Rattle.cases.specs.Validity.{allBelow, hasParentIn}
+use Rattle.cases.proofs.RowTests.{all-below-none, all-below-next, all-below-whole, all-below-stops}
+use Rattle.cases.proofs.ForeignLaws.{key-is}
 use Rattle.cases.proofs.validity.foreign_key_holds.Statement.{statement}
 use Rattle.cases.proofs.validity.foreign_key_holds.Tie as tie
 
 abbrev Inv-loop : tie.InvT-loop
-Inv-loop frame counts work key children parents i₀ i = (i ≤ children) × ParentsTo frame counts work i
+Inv-loop frame counts work key children parents i₀ i = (i ≤ children) × (allBelow (hasParentIn frame key work parents) i ≡ true)
 
 abbrev μ-loop : tie.MeasureT-loop
 μ-loop frame counts work key children parents i₀ i = children - i
@@ -29,14 +33,14 @@ byte-at-requires-2 : tie.Need-byte-at-requires-2 Inv-loop μ-loop
 byte-at-requires-2 c κs = search needs
 
 loop-holds : tie.Need-loop-holds Inv-loop μ-loop
-loop-holds c = (omega arith, parents-none _ _ _)
+loop-holds c = (omega arith, all-below-none _)
 
 has-parent-requires : tie.Need-has-parent-requires Inv-loop μ-loop
 has-parent-requires c κs = search needs
 
 returns : tie.Need-returns Inv-loop μ-loop
-returns c = parents-stop _ _ _ (c .before .before .before .before .before .before .before .before .key-parts .ensures) (c .before .before .before .before .before .before .byte-at .ensures)
-    (c .before .before .before .before .byte-at2 .ensures) (c .before .before .loop-test .taken) (c .before .has-parent .ensures) (not-true _ (c .if1 .taken))
+returns c = key-is _ _ _ (c .before .before .before .before .before .before .before .before .key-parts .ensures) (c .before .before .before .before .before .before .byte-at .ensures)
+    (c .before .before .before .before .byte-at2 .ensures) (all-below-stops _ _ _ (c .before .before .loop-test .taken) (sym (c .before .has-parent .ensures) ∙ not-true _ (c .if1 .taken)))
 
 add-i : tie.Need-add-i Inv-loop μ-loop
 add-i c = search needs
@@ -45,15 +49,13 @@ loop-less : tie.Need-loop-less Inv-loop μ-loop
 loop-less c = omega arith
 
 loop-again : tie.Need-loop-again Inv-loop μ-loop
-loop-again c = (
-  omega arith,
-  parents-more _ _ _ (c .before .before .before .before .before .before .before .before .key-parts .ensures) (c .before .before .before .before .before .before .byte-at .ensures)
-      (c .before .before .before .before .byte-at2 .ensures) (c .before .before .before .loop .inv .1) (c .before .has-parent .ensures) (not-false _ (c .if1 .left)),
-)
+loop-again c =
+    (omega arith, all-below-next _ _ (c .before .before .before .loop .inv .1) (sym (c .before .has-parent .ensures) ∙ not-false _ (c .if1 .left)))
 
 returns-2 : tie.Need-returns-2 Inv-loop μ-loop
-returns-2 c = parents-whole _ _ _ (c .before .before .before .before .before .before .key-parts .ensures) (c .before .before .before .before .byte-at .ensures) (c .before .before .byte-at2 .ensures) (omega arith)
-    (c .before .loop .inv .1)
+returns-2 c =
+    key-is _ _ _ (c .before .before .before .before .before .before .key-parts .ensures) (c .before .before .before .before .byte-at .ensures) (c .before .before .byte-at2 .ensures)
+    (all-below-whole _ _ _ (omega arith) (c .before .loop .inv .1))
 
 pub foreign-key-holds-spec : {M : Type 1} → statement M
 foreign-key-holds-spec =

@@ -13,7 +13,7 @@ refusal-requires c κs = search needs
 
 returns : tie.Need-returns
 returns c = plan-refused (c .before .before .before .before .before .args .text .now) (c .before .before .before .decode .result) _ (refused-as (c .before .before .before .before .before .args .text .now)
-    (c .before .before .before .decode .result) (c .before .before .before .decode .ensures) (c .before .if1 .taken)) (c .before .if1 .taken) (c .refusal .ensures .0) (c .refusal .ensures .1)
+    (c .before .before .before .decode .result) (c .before .before .before .decode .ensures) (c .before .if1 .taken)) (c .before .if1 .taken) (c .refusal .ensures)
 
 array-share-prefix-bytes : tie.Need-array-share-prefix-bytes
 array-share-prefix-bytes c = used-inside (c .before .before .before .before .before .args .text .now) (c .before .before .before .decode .result) (c .before .before .before .decode .ensures) (c .before .if1 .left)
