@@ -3,6 +3,7 @@ use mathlib.Core.Path.{_≡_, refl, sym, ap, ap₂, _∙_}
 use mathlib.Core.Bool.{Bool, true, false, cond}
 use mathlib.Core.List.{List, [], _∷_}
 use Prim.Native.Nat.{ℕ, zero, suc, _+_, _*_, _≤_, _<_, min}
+use native.Mathlib.Numerals.{add-one}
 use native.Mathlib.Omega.{arith}
 use lib.IntN.{ℤ}
 use lib.ListN.{length, getD}
@@ -18,8 +19,8 @@ use Rattle.catalog.specs.Arrays.{widthAt, boundAt, rangesFrom, rangesIn, rangeA
 use Rattle.language.specs.Draft.{Draft, relationCount, schemasOf}
 use Rattle.checker.specs.Catalogued.{Catalogued}
 use Rattle.checker.specs.FixedFaults.{setOperation}
-use Rattle.checker.specs.Entries.{hullAt, Before, HullsPut, SetEntered}
-use Rattle.catalog.proofs.ArrayLaws.{none, length-ranges, ranges-same, puts-outside, puts-ranges, puts-before, puts-more}
+use Rattle.checker.specs.Entries.{hullAt, Before, putHulls, joinedWith, SetEntered}
+use Rattle.catalog.proofs.ArrayLaws.{none, length-ranges, ranges-same, puts-outside, puts-ranges, puts-before}
 use Rattle.checker.proofs.EntryLaws.{view-entered}
 use Rattle.checker.proofs.FixedLaws.{bound-known}
 
@@ -33,15 +34,24 @@ range-before f ends r shape left b n c =
     ap (λ rs. getD rs c none) (ranges-same ends (putRanges f ends r n) (16 * left) (widthAt shape left) (λ k a z. puts-before f ends r n k (omega arith)))
 
 module _ (shape : List ℕ) (ends : List ℤ) (left right r : ℕ) where
-  abbrev pub HullsSoFar : ℕ → List ℤ → Type 0
-  HullsSoFar c now = Before shape left r → Before shape right r → now ≡ putRanges (hullAt shape ends left right) ends r c
+  pub hulls-none : ends ≡ putHulls shape ends left right r 0
+  unfolding putHulls
+  hulls-none = refl
 
-  pub hulls-more : (c : ℕ) (now : List ℤ) (x : Range) → HullsSoFar c now → x ≡ hullAt shape now left right c → HullsSoFar (c + 1) (putRange now r c x)
-  unfolding hullAt
-  hulls-more c now x e h a b =
+  pub hulls-more : (c : ℕ) (now : List ℤ) (x : Range) → now ≡ putHulls shape ends left right r c → x ≡ hullAt shape now left right c
+      → putRange now r c x ≡ putHulls shape ends left right r (c + 1)
+  unfolding putHulls
+  hulls-more c now x e h = rw (add-one c) (ap₂ (λ l y. putRange l r c y) e (h ∙ ap (λ l. hullAt shape l left right c) e))
+
+  -- of relations before r: the hulls of the ranges at the start
+  hulls-stored : Before shape left r → Before shape right r → (n : ℕ) → putHulls shape ends left right r n ≡ putRanges (hullAt shape ends left right) ends r n
+  unfolding putHulls putRanges hullAt
+  hulls-stored a b zero = refl
+  hulls-stored a b (suc n) =
       let f = hullAt shape ends left right in
-      puts-more f ends r c now x (e a b)
-      (h ∙ rw (e a b) (ap₂ hullOf (range-before f ends r shape left a c c) (range-before f ends r shape right b c c)))
+      let e = hulls-stored a b n in
+      ap₂ (λ l y. putRange l r n y) e
+      (ap (λ l. hullAt shape l left right n) e ∙ ap₂ hullOf (range-before f ends r shape left a n n) (range-before f ends r shape right b n n))
 
 -- ---- hulls
 
@@ -72,6 +82,10 @@ set-hulls : (union : Bool) (rs : ℕ → List Range) (i j : ℕ) → setRanges (
 set-hulls true rs i j = refl
 set-hulls false rs i j = sym (hulls-self (rs i))
 
+joined-with : (union : Bool) (left right : ℕ) → cond union right left ≡ joinedWith (setOperation union) left right
+joined-with true left right = refl
+joined-with false left right = refl
+
 -- ---- what is stored
 
 module _ {d : Draft} {shape : List ℕ} {ends : List ℤ} (c : Catalogued d shape ends) where
@@ -79,9 +93,10 @@ module _ {d : Draft} {shape : List ℕ} {ends : List ℤ} (c : Catalogued d shap
   ranges-are i = ap (λ (s : Schema). s .ranges) (sym (c .schemas i))
 
   module _ (left right r width : ℕ) (after : List ℤ) (e : r ≡ relationCount d)
-      (l : left < relationCount d) (k : right < relationCount d) (p : HullsPut left right r width shape ends after) where
+      (l : left < relationCount d) (k : right < relationCount d) (p : after ≡ putHulls shape ends left right r width) where
     put : after ≡ putRanges (hullAt shape ends left right) ends r width
-    put = p .stored (record { earlier = omega arith; narrow = c .widths left }) (record { earlier = omega arith; narrow = c .widths right })
+    put =
+        p ∙ hulls-stored shape ends left right r (record { earlier = omega arith; narrow = c .widths left }) (record { earlier = omega arith; narrow = c .widths right }) width
 
     put-outside : width ≤ 8 → Outside r ends after
     put-outside w = rw put (puts-outside (hullAt shape ends left right) ends r width w)
@@ -92,10 +107,14 @@ module _ {d : Draft} {shape : List ℕ} {ends : List ℤ} (c : Catalogued d shap
 
 module _ (left right r width bound : ℕ) (shape : List ℕ) (ends : List ℤ) (shape′ : List ℕ) (ends′ : List ℤ) (s : shape′ ≡ putShape shape r 2 width bound 0) where
   pub set-entered : (union : Bool) (other : ℕ) → other ≡ cond union right left → width ≡ min (widthAt shape left) (widthAt shape other)
-      → bound ≡ min (setBound (setOperation union) (boundAt shape left) (boundAt shape right)) 255 → HullsPut left other r width shape ends ends′
+      → bound ≡ min (setBound (setOperation union) (boundAt shape left) (boundAt shape right)) 255 → ends′ ≡ putHulls shape ends left other r width
       → SetEntered (setOperation union) left right r shape ends shape′ ends′
   unfolding hullAt
   set-entered union other o w b p = record {
+    shape-is = s ∙ ap₂ (λ m n. putShape shape r 2 m n 0) (w ∙ ap (λ i. min (widthAt shape left) (widthAt shape i)) (o ∙ joined-with union left right)) b;
+    ends-are =
+        p ∙ ap₂ (λ i m. putHulls shape ends left i r m) (o ∙ joined-with union left right)
+        (w ∙ ap (λ i. min (widthAt shape left) (widthAt shape i)) (o ∙ joined-with union left right));
     entered = λ d c e z l k m.
         let op = setOperation union in
         let L = rangesIn shape ends left in

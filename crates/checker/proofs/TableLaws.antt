@@ -86,6 +86,8 @@ column-in frame c =
 parts-entered : (frame : List ℕ) (r : ℕ) (shape : List ℕ) (ends : List ℤ) (shape′ : List ℕ) (ends′ : List ℤ) → let p = tablePartsIn frame in
     shape′ ≡ putShape shape r 1 (p .width) (p .rows) (p .mask) → ends′ ≡ putRanges (columnIn frame) ends r (p .width) → TableEntered frame r shape ends shape′ ends′
 parts-entered frame r shape ends shape′ ends′ s p = record {
+  shape-is = s;
+  ends-are = p;
   entered = λ d t c e l v q.
       let h = table-read frame t q in
       let w = tablePartsIn frame .width in

@@ -17,9 +17,7 @@ use Rattle.value.proofs.Decides.{by-test, and-parts}
 use Rattle.value.proofs.Places.{from-byte}
 use Rattle.language.specs.Reading.{Read, Reader, done, andThen, _>>=_, byteIf, place, openItems, readE, readC}
 use Rattle.meaning.proofs.Elements.{all-given, map-same}
-use Rattle.prefix.specs.Skipped.{skipOf, skipped}
-use Rattle.prefix.specs.declared.Skip.{Skip}
-use Rattle.prefix.specs.declared.Skip.the-variants.{Next, Refused}
+use Rattle.prefix.specs.Skipped.{FormEnd, skipOf, skipped}
 use Rattle.prefix.proofs.Ends.{Ends, Field, ends-done, ends-more, ends-bind, field-if, field-bind, fieldE, fieldC}
 use Rattle.prefix.proofs.Skips.{Landed, lands, field-lands, then-more, then-stop, next-is, level-done, level-bind, level-at}
 use Rattle.catalog.specs.Arrays.{widthAt}
@@ -202,11 +200,11 @@ widths-are {d} {shape} c fs = map-same (width d) (widthAt shape) (all-given (wid
 -- ---- what follows a part
 
 module _ (frame : List ℕ) where
-  pub fault-stop : {A B : Type 0} (m : Reader A) (f : A → Reader B) (at n : ℕ) {r : Skip} → r ≡ skipped frame at m → r ≡ Refused n → faultAt frame at (m >>= f) ≡ n
+  pub fault-stop : {A B : Type 0} (m : Reader A) (f : A → Reader B) (at n : ℕ) {r : FormEnd} → r ≡ skipped frame at m → r ≡ FormEnd.refused n → faultAt frame at (m >>= f) ≡ n
   unfolding skipped faultAt
   fault-stop {A} m f at n e k = go (m (drop at frame)) (sym e ∙ k)
     where
-      go : (x : Read A) → skipOf frame x ≡ Refused n → faultOf (andThen x f) ≡ n
+      go : (x : Read A) → skipOf frame x ≡ FormEnd.refused n → faultOf (andThen x f) ≡ n
       go (Read.ok a rest) q = let z : _≡_ {A = ℕ} 0 1 = cc in absurd (omega arith)
       go (Read.refused j) q = cc
 
@@ -231,7 +229,7 @@ module _ {A : Type 0} (frame : List ℕ) {m : Reader A} (s : Field m) (at n : �
   repeat-holds h = record { same = refl; inside = h }
 
   module _ {next left : ℕ} (i : Repeated frame m at n next left) where
-    pub repeat-again : {e : ℕ} {r : Skip} → 0 < left → r ≡ skipped frame next m → r ≡ Next e → Repeated frame m at n e (left - 1)
+    pub repeat-again : {e : ℕ} {r : FormEnd} → 0 < left → r ≡ skipped frame next m → r ≡ FormEnd.next e → Repeated frame m at n e (left - 1)
     repeat-again h p q =
         let k : left ≡ suc (left - 1) = omega arith in
         record {
@@ -239,15 +237,15 @@ module _ {A : Type 0} (frame : List ℕ) {m : Reader A} (s : Field m) (at n : �
           inside = field-lands frame s next _ (sym p ∙ q) .inside;
         }
 
-    pub repeat-stops : {e : ℕ} {r : Skip} → 0 < left → r ≡ skipped frame next m → r ≡ Refused e → skipped frame at (repeated n m) ≡ Refused e
+    pub repeat-stops : {e : ℕ} {r : FormEnd} → 0 < left → r ≡ skipped frame next m → r ≡ FormEnd.refused e → skipped frame at (repeated n m) ≡ FormEnd.refused e
     repeat-stops h p q =
         let k : left ≡ suc (left - 1) = omega arith in
         i .same ∙ ap (λ j. skipped frame next (repeated j m)) k ∙ then-stop frame m _ next _ p q
 
-    pub repeat-ends : left ≡ 0 → skipped frame at (repeated n m) ≡ Next next
+    pub repeat-ends : left ≡ 0 → skipped frame at (repeated n m) ≡ FormEnd.next next
     repeat-ends h = i .same ∙ ap (λ j. skipped frame next (repeated j m)) h ∙ next-is frame (done []) next next (i .inside) refl
 
-  pub repeat-lands : {next : ℕ} {r : Skip} → at ≤ length frame → r ≡ skipped frame at (repeated n m) → r ≡ Next next → Landed frame (repeated n m) at next
+  pub repeat-lands : {next : ℕ} {r : FormEnd} → at ≤ length frame → r ≡ skipped frame at (repeated n m) → r ≡ FormEnd.next next → Landed frame (repeated n m) at next
   repeat-lands h p q = lands frame (ends-times (s .ends) n) at _ h (sym p ∙ q)
 
 -- ---- a grouping column: the place of an expression, read as a place
@@ -268,44 +266,44 @@ place-field cols =
 -- ---- a condition, grouping columns, expressions, the end
 
 module _ (frame cols : List ℕ) (at : ℕ) where
-  module _ (m : ℕ) {n : ℕ} {r : Skip} (p : r ≡ skipped frame at (repeated m (readE (openItems cols)))) where
-    pub select-next : {v : ℕ} → at ≤ length frame → r ≡ Next n → v ≡ faultAt frame n (ending n) → v ≡ faultAt frame at (selectEnd cols m)
+  module _ (m : ℕ) {n : ℕ} {r : FormEnd} (p : r ≡ skipped frame at (repeated m (readE (openItems cols)))) where
+    pub select-next : {v : ℕ} → at ≤ length frame → r ≡ FormEnd.next n → v ≡ faultAt frame n (ending n) → v ≡ faultAt frame at (selectEnd cols m)
     unfolding selectEnd
     select-next h q e = e ∙ sym (fault-next frame (repeat-lands frame (fieldE (openItems cols)) at m h p q) (λ es. ending es) (λ es. end-any frame n es n))
 
-    pub select-stop : r ≡ Refused n → n ≡ faultAt frame at (selectEnd cols m)
+    pub select-stop : r ≡ FormEnd.refused n → n ≡ faultAt frame at (selectEnd cols m)
     unfolding selectEnd
     select-stop q = sym (fault-stop frame (repeated m (readE (openItems cols))) (λ es. ending es) at n p q)
 
-  module _ {n : ℕ} {r : Skip} (p : r ≡ skipped frame at (readC (openItems cols))) where
-    landed : r ≡ Next n → Landed frame (readC (openItems cols)) at n
+  module _ {n : ℕ} {r : FormEnd} (p : r ≡ skipped frame at (readC (openItems cols))) where
+    landed : r ≡ FormEnd.next n → Landed frame (readC (openItems cols)) at n
     landed q = field-lands frame (fieldC (openItems cols)) at n (sym p ∙ q)
 
-    pub condition-inside : r ≡ Next n → n ≤ length frame
+    pub condition-inside : r ≡ FormEnd.next n → n ≤ length frame
     condition-inside q = landed q .inside
 
     module _ (m : ℕ) where
-      pub condition-next : {v : ℕ} → r ≡ Next n → v ≡ faultAt frame n (selectEnd cols m) → v ≡ faultAt frame at (conditionSelect cols m)
+      pub condition-next : {v : ℕ} → r ≡ FormEnd.next n → v ≡ faultAt frame n (selectEnd cols m) → v ≡ faultAt frame at (conditionSelect cols m)
       unfolding conditionSelect
       condition-next q e = e ∙ sym (fault-next frame (landed q) (λ w. selectEnd cols m) (λ w. refl))
 
-      pub condition-stop : r ≡ Refused n → n ≡ faultAt frame at (conditionSelect cols m)
+      pub condition-stop : r ≡ FormEnd.refused n → n ≡ faultAt frame at (conditionSelect cols m)
       unfolding conditionSelect
       condition-stop q = sym (fault-stop frame (readC (openItems cols)) (λ w. selectEnd cols m) at n p q)
 
       module _ (g : ℕ) where
-        pub where-stop : r ≡ Refused n → n ≡ faultAt frame at (whereGroups cols g m)
+        pub where-stop : r ≡ FormEnd.refused n → n ≡ faultAt frame at (whereGroups cols g m)
         unfolding whereGroups
         where-stop q = sym (fault-stop frame (readC (openItems cols)) (λ w. repeated g (placeField cols) >>= λ gs. conditionSelect cols m) at n p q)
 
-        module _ {s : Skip} (q : r ≡ Next n) (t : s ≡ skipped frame n (repeated g (placeField cols))) where
+        module _ {s : FormEnd} (q : r ≡ FormEnd.next n) (t : s ≡ skipped frame n (repeated g (placeField cols))) where
           at-places : faultAt frame at (whereGroups cols g m) ≡ faultAt frame n (repeated g (placeField cols) >>= λ gs. conditionSelect cols m)
           unfolding whereGroups
           at-places = fault-next frame (landed q) (λ w. repeated g (placeField cols) >>= λ gs. conditionSelect cols m) (λ w. refl)
 
-          pub groups-next : {k v : ℕ} → s ≡ Next k → v ≡ faultAt frame k (conditionSelect cols m) → v ≡ faultAt frame at (whereGroups cols g m)
+          pub groups-next : {k v : ℕ} → s ≡ FormEnd.next k → v ≡ faultAt frame k (conditionSelect cols m) → v ≡ faultAt frame at (whereGroups cols g m)
           groups-next u e =
               e ∙ sym (at-places ∙ fault-next frame (repeat-lands frame (place-field cols) n g (landed q .inside) t u) (λ gs. conditionSelect cols m) (λ gs. refl))
 
-          pub groups-stop : {k : ℕ} → s ≡ Refused k → k ≡ faultAt frame at (whereGroups cols g m)
+          pub groups-stop : {k : ℕ} → s ≡ FormEnd.refused k → k ≡ faultAt frame at (whereGroups cols g m)
           groups-stop u = sym (at-places ∙ fault-stop frame (repeated g (placeField cols)) (λ gs. conditionSelect cols m) n _ t u)

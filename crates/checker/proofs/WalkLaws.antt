@@ -1,9 +1,10 @@
 -- The walk over packed frames.
 --     Left    the frames that are left, and the draft that those before them make
 -- Assumes nothing.
-use mathlib.Core.Path.{_≡_, refl, sym, ap, subst, _∙_}
+use mathlib.Core.Path.{_≡_, refl, sym, ap, ap₂, subst, _∙_}
 use mathlib.Core.List.{List, [], _∷_, _++_, append-assoc}
 use Prim.Native.Nat.{ℕ, zero, suc, _+_, _-_, _≤_, _<_}
+use native.Mathlib.Numerals.{add-one}
 use native.Mathlib.Omega.{arith}
 use lib.Dec.{eqb}
 use lib.IntN.{ℤ}
@@ -20,7 +21,7 @@ use Rattle.catalog.proofs.ArrayLaws.{first-same, first-more, start-kept, start-
 use Rattle.catalog.proofs.FrameLaws.{pack-cons, frame-here}
 use Rattle.checker.specs.Catalogued.{checkedFault}
 use Rattle.checker.specs.Standing.{DraftIn, Stepped, startProgress}
-use Rattle.checker.specs.Plans.{WalkedTo, startFrom, frameNumber, StartsPut}
+use Rattle.checker.specs.Plans.{WalkedTo, startFrom, frameNumber, putStarts, StartsPut}
 use Rattle.checker.specs.declared.state.Progress.{Progress}
 use Rattle.checker.specs.declared.step.Step.{Step}
 use Rattle.language.proofs.Steps.{Looked, looked}
@@ -131,11 +132,14 @@ start-back bytes tail (suc n) at (f ∷ fs) e h =
     ap (λ j. drop (startFrom bytes j n) bytes) i ∙ start-back bytes tail n (at + 1 + length f) fs (frame-here bytes at f (pack fs ++ tail) here .1) (omega arith)
 
 pub starts-none : (packed : List ℕ) (tables keys : ℕ) (shape : List ℕ) → StartsPut packed tables keys 0 shape shape
-starts-none packed tables keys shape = record { kept = first-same 4 shape; there = λ r h. absurd (omega arith) }
+unfolding putStarts
+starts-none packed tables keys shape = record { shape-is = refl; kept = first-same 4 shape; there = λ r h. absurd (omega arith) }
 
 pub starts-more : (packed : List ℕ) (tables keys n : ℕ) (shape shape₁ shape₂ : List ℕ) (x y : ℕ) → n < 16 → StartsPut packed tables keys n shape shape₁
     → y ≡ frameNumber tables keys n → x ≡ startFrom packed 0 y → shape₂ ≡ putStart shape₁ n x → StartsPut packed tables keys (n + 1) shape shape₂
+unfolding putStarts
 starts-more packed tables keys n shape shape₁ shape₂ x y l s f e p = record {
+  shape-is = rw (add-one n) (p ∙ ap₂ (λ (z : List ℕ) (i : ℕ). putStart z n i) (s .shape-is) (e ∙ ap (startFrom packed 0) f));
   kept = rw p (first-more (s .kept) (start-kept shape₁ n x));
   there = λ r h z b. by-test (eqb r n)
       (λ t. let q : r ≡ n = eqb-true r n t in
@@ -156,6 +160,6 @@ unfolding startFrom
 start-end packed at zero h = refl
 start-end packed at (suc n) h = absurd (omega arith)
 
-pub starts-full : (packed : List ℕ) (tables keys n : ℕ) (shape shape′ : List ℕ) → 16 ≤ n → StartsPut packed tables keys n shape shape′
+pub starts-full : (packed : List ℕ) (tables keys n : ℕ) (shape shape′ : List ℕ) → n ≡ 16 → StartsPut packed tables keys n shape shape′
     → StartsPut packed tables keys 16 shape shape′
-starts-full packed tables keys n shape shape′ h s = record { kept = s .kept; there = λ r l. s .there r (omega arith) }
+starts-full packed tables keys n shape shape′ h s = rw h at s

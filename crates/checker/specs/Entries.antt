@@ -1,7 +1,7 @@
 -- What a frame without fault adds to the checker's arrays. Assumes nothing: these are definitions.
 use mathlib.Core.Path.{_≡_}
 use mathlib.Core.List.{List, []}
-use Prim.Native.Nat.{ℕ, _+_, _*_, _<_, _≤_}
+use Prim.Native.Nat.{ℕ, zero, suc, _+_, _*_, _<_, _≤_, min}
 use lib.IntN.{ℤ}
 use lib.ListN.{length, getD, drop, set}
 use Rattle.value.specs.Integer.{bytesZ}
@@ -10,9 +10,9 @@ use Rattle.range.specs.declared.Range.{Range}
 use Rattle.range.specs.Ranges.{rangeFrom, hullOf}
 use Rattle.meaning.specs.Syntax.{Table, SetOperation, View}
 use Rattle.language.specs.Reading.{Read}
-use Rattle.meaning.specs.Bounds.{viewSchema}
-use Rattle.catalog.specs.Arrays.{widthAt, rangeAt, putRanges}
-use Rattle.catalog.specs.Frames.{columnsStart}
+use Rattle.meaning.specs.Bounds.{setBound, viewSchema}
+use Rattle.catalog.specs.Arrays.{widthAt, boundAt, rangeAt, putRange, putShape, putRanges}
+use Rattle.catalog.specs.Frames.{columnsStart, tablePartsIn}
 use Rattle.language.specs.Draft.{Draft, Item, added, relationCount, schemasOf}
 use Rattle.language.specs.Frames.{tableFrame}
 use Rattle.checker.specs.Catalogued.{Catalogued}
@@ -37,15 +37,27 @@ pub record Before (shape : List ℕ) (left r : ℕ) : Type 0 where
   pub earlier : left < r
   pub narrow : widthAt shape left ≤ 8
 
-pub record HullsPut (left right r width : ℕ) (shape : List ℕ) (ends after : List ℤ) : Type 0 where
-  pub stored : Before shape left r → Before shape right r → after ≡ putRanges (hullAt shape ends left right) ends r width
+-- the first n columns of relation r become hulls, each of the ranges that are there by then
+unfoldable pub putHulls : List ℕ → List ℤ → ℕ → ℕ → ℕ → ℕ → List ℤ
+putHulls shape ends left right r zero = ends
+putHulls shape ends left right r (suc n) = let before = putHulls shape ends left right r n in putRange before r n (hullAt shape before left right n)
 
--- ---- the arrays stand for the draft with what the frame adds
+-- whose ranges join the left's in hulls
+abbrev pub joinedWith : SetOperation → ℕ → ℕ → ℕ
+joinedWith SetOperation.union left right = right
+joinedWith SetOperation.intersection left right = left
+
+-- ---- what the arrays are with what the frame adds, on any bytes; and that they stand for the draft with it
 
 pub record TableEntered (frame : List ℕ) (r : ℕ) (shape : List ℕ) (ends : List ℤ) (shape′ : List ℕ) (ends′ : List ℤ) : Type 0 where
+  pub shape-is : let p = tablePartsIn frame in shape′ ≡ putShape shape r 1 (p .width) (p .rows) (p .mask)
+  pub ends-are : ends′ ≡ putRanges (columnIn frame) ends r (tablePartsIn frame .width)
   pub entered : (d : Draft) (t : Table) → Catalogued d shape ends → r ≡ length (d .tables) → r < 16 → d .views ≡ []
       → tableFrame (drop 1 frame) ≡ Read.ok (Item.table t) [] → Catalogued (added d (Item.table t)) shape′ ends′
 
 pub record SetEntered (op : SetOperation) (left right r : ℕ) (shape : List ℕ) (ends : List ℤ) (shape′ : List ℕ) (ends′ : List ℤ) : Type 0 where
+  pub shape-is : let other = joinedWith op left right in
+      shape′ ≡ putShape shape r 2 (min (widthAt shape left) (widthAt shape other)) (min (setBound op (boundAt shape left) (boundAt shape right)) 255) 0
+  pub ends-are : let other = joinedWith op left right in ends′ ≡ putHulls shape ends left other r (min (widthAt shape left) (widthAt shape other))
   pub entered : (d : Draft) → Catalogued d shape ends → r ≡ relationCount d → r < 16 → left < relationCount d → right < relationCount d
       → viewSchema (schemasOf d) (View.set op left right) .bound ≤ 64 → Catalogued (added d (Item.view (View.set op left right))) shape′ ends′

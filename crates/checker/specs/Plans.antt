@@ -12,7 +12,7 @@ use Rattle.text.specs.declared.Frames.{Frames}
 use Rattle.language.specs.Draft.{empty}
 use Rattle.language.specs.Check.{Outcome, Reached, reach}
 use Rattle.language.specs.FileOf.{fileOf}
-use Rattle.catalog.specs.Arrays.{startAt, FirstKept}
+use Rattle.catalog.specs.Arrays.{startAt, putStart, FirstKept}
 use Rattle.catalog.specs.FileIn.{PlanOf, SomeRow}
 use Rattle.catalog.specs.declared.outline.Outline.{Outline}
 use Rattle.catalog.specs.declared.plan.Plan.{Plan}
@@ -41,8 +41,14 @@ startFrom packed at (suc n) = startFrom packed (at + getD packed at 0 + 1) n
 unfoldable pub frameNumber : ℕ → ℕ → ℕ → ℕ
 frameNumber tables keys r = cond (ltb r tables) r (r + keys)
 
--- the places of the first n relations' frames, where these are below 65,536; the four bytes before them stay
+-- the places of the first n relations' frames noted in turn
+unfoldable pub putStarts : List ℕ → ℕ → ℕ → ℕ → List ℕ → List ℕ
+putStarts packed tables keys zero shape = shape
+putStarts packed tables keys (suc n) shape = putStart (putStarts packed tables keys n shape) n (startFrom packed 0 (frameNumber tables keys n))
+
+-- they are there, where they are below 65,536; the four bytes before each stay
 pub record StartsPut (packed : List ℕ) (tables keys n : ℕ) (shape shape′ : List ℕ) : Type 0 where
+  pub shape-is : shape′ ≡ putStarts packed tables keys n shape
   pub kept : FirstKept 4 shape shape′
   pub there : (r : ℕ) → r < n → length shape ≡ 128 → startFrom packed 0 (frameNumber tables keys r) < 65536 → startAt shape′ r ≡ startFrom packed 0 (frameNumber tables keys r)
 

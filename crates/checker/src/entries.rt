@@ -13,7 +13,7 @@ ghost use Prim.Native.Nat.{_+_, _*_, _≤_, min};
 ghost use Rattle.value.specs.Machine.{columnOf};
 ghost use Rattle.meaning.specs.Bounds.{setBound};
 ghost use Rattle.catalog.specs.Arrays.{widthAt, boundAt, putShape, putRanges};
-ghost use Rattle.checker.specs.Entries.{columnFrom, columnIn, HullsPut, TableEntered, SetEntered};
+ghost use Rattle.checker.specs.Entries.{columnFrom, columnIn, putHulls, TableEntered, SetEntered};
 ghost use Rattle.checker.specs.FixedFaults.{setOperation};
 ghost use Rattle.checker.specs.CandidateCount.{tooMany, cappedProduct, columnsFrom, tableCells, CandidatesOf};
 
@@ -76,7 +76,7 @@ pub fn enter_view(shape: &mut [u8], r: u8, width: u8, bound: u8)
 
 // The first columns of relation r: the hulls of left's and right's.
 fn put_hulls(shape: &[u8], ends: &mut [i32], left: u8, right: u8, r: u8, width: u8)
-    ensures { λ _. ⌜ HullsPut left right r width (now (shape .entry)) (now (ends .entry)) (now (ends .exit)) ⌝ }
+    ensures { λ _. ⌜ now (ends .exit) ≡ putHulls (now (shape .entry)) (now (ends .entry)) left right r width ⌝ }
 {
     let mut c: u8 = 0;
     while c < width {

@@ -7,7 +7,7 @@ ghost use mathlib.Core.Path.{_≡_};
 ghost use Prim.Native.Nat.{_≤_};
 ghost use lib.ListN.{length};
 ghost use Rattle.language.specs.Reading.{byteIf, readE};
-ghost use Rattle.prefix.specs.Skipped.{skipped};
+ghost use Rattle.prefix.specs.Skipped.{skipTold, skipped};
 ghost use Rattle.catalog.specs.Items.{relationsIn, widthsIn, openIn};
 ghost use Rattle.language.specs.Frames.{repeated, placeField};
 ghost use Rattle.checker.specs.Faults.{faultAt, under};
@@ -46,7 +46,7 @@ fn from_list(frame: &[u8], count: u8) -> u8
 // Where n expressions end.
 fn expressions(frame: &[u8], at: usize, items: Items, shape: &[u8], n: u8) -> Skip
     requires { ⌜ at ≤ length (now frame) ⌝ }
-    ensures { λ r. ⌜ r ≡ skipped (now (frame .entry)) at (repeated n (readE (openIn (now (shape .entry)) (relationsIn items)))) ⌝ }
+    ensures { λ r. ⌜ skipTold r ≡ skipped (now (frame .entry)) at (repeated n (readE (openIn (now (shape .entry)) (relationsIn items)))) ⌝ }
 {
     let mut next = at;
     let mut left = n;
@@ -63,7 +63,7 @@ fn expressions(frame: &[u8], at: usize, items: Items, shape: &[u8], n: u8) -> Sk
 // Where n grouping columns end.
 fn places(frame: &[u8], at: usize, items: Items, shape: &[u8], n: u8) -> Skip
     requires { ⌜ at ≤ length (now frame) ⌝ }
-    ensures { λ r. ⌜ r ≡ skipped (now (frame .entry)) at (repeated n (placeField (widthsIn (now (shape .entry)) (relationsIn items)))) ⌝ }
+    ensures { λ r. ⌜ skipTold r ≡ skipped (now (frame .entry)) at (repeated n (placeField (widthsIn (now (shape .entry)) (relationsIn items)))) ⌝ }
 {
     let mut next = at;
     let mut left = n;

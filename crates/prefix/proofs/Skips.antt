@@ -12,9 +12,7 @@ use native.Mathlib.Omega.{arith}
 use lib.ListN.{length, drop, length-append, length-drop, drop-of-length-le}
 use lib.Seq.{drop-drop, drop-append-seam}
 use Rattle.language.specs.Reading.{Read, Reader, Open, done, andThen, _>>=_, readE, readC}
-use Rattle.prefix.specs.Skipped.{skipOf, skipped}
-use Rattle.prefix.specs.declared.Skip.{Skip}
-use Rattle.prefix.specs.declared.Skip.the-variants.{Next, Refused}
+use Rattle.prefix.specs.Skipped.{FormEnd, skipOf, skipped}
 use Rattle.prefix.proofs.Ends.{Ends, Field, fieldE, fieldC}
 
 -- ---- readers that end alike
@@ -47,11 +45,11 @@ module _ (frame : List ℕ) where
   -- ---- positions
 
   pub next-is : {A : Type 0} (m : Reader A) (at n : ℕ) {a : A} → n ≤ length frame → m (drop at frame) ≡ Read.ok a (drop n frame)
-      → skipped frame at m ≡ Next n
+      → skipped frame at m ≡ FormEnd.next n
   unfolding skipped
-  next-is m at n h e = ap (skipOf frame) e ∙ ap Next (rw length-drop (omega arith))
+  next-is m at n h e = ap (skipOf frame) e ∙ ap FormEnd.next (rw length-drop (omega arith))
 
-  pub past-end : {A : Type 0} {m : Reader A} → Field m → (at : ℕ) → length frame ≤ at → skipped frame at m ≡ Refused 4
+  pub past-end : {A : Type 0} {m : Reader A} → Field m → (at : ℕ) → length frame ≤ at → skipped frame at m ≡ FormEnd.refused 4
   unfolding skipped
   past-end {m = m} f at h = ap (λ bs. skipOf frame (m bs)) (drop-of-length-le frame h) ∙ ap (skipOf frame) (f .starts)
 
@@ -71,11 +69,11 @@ module _ (frame : List ℕ) where
     pub further : at ≤ n
     pub inside : n ≤ length frame
 
-  pub lands : {A : Type 0} {m : Reader A} → Ends m → (at n : ℕ) → at ≤ length frame → skipped frame at m ≡ Next n → Landed m at n
+  pub lands : {A : Type 0} {m : Reader A} → Ends m → (at n : ℕ) → at ≤ length frame → skipped frame at m ≡ FormEnd.next n → Landed m at n
   unfolding skipped
   lands {A} {m = m} s at n h e = go (m (drop at frame)) refl e
     where
-      go : (r : Read A) → m (drop at frame) ≡ r → skipOf frame r ≡ Next n → Landed m at n
+      go : (r : Read A) → m (drop at frame) ≡ r → skipOf frame r ≡ FormEnd.next n → Landed m at n
       go (Read.ok a rest) p q =
           let (used, b) = s .suffix (drop at frame) a rest p in
           let (x, y) = rest-is at used rest h b in
@@ -84,20 +82,20 @@ module _ (frame : List ℕ) where
       go (Read.refused k) p q = let z : _≡_ {A = ℕ} 0 1 = cc in absurd (omega arith)
 
   -- a field that ended well began in the frame
-  pub begins : {A : Type 0} {m : Reader A} → Field m → (at n : ℕ) → skipped frame at m ≡ Next n → at < length frame
+  pub begins : {A : Type 0} {m : Reader A} → Field m → (at n : ℕ) → skipped frame at m ≡ FormEnd.next n → at < length frame
   begins f at n e = go (decLe (length frame) at)
     where
       go : Dec (length frame ≤ at) → at < length frame
       go (yes h) = let p = past-end f at h in let z : _≡_ {A = ℕ} 0 1 = cc in absurd (omega arith)
       go (no h) = omega arith
 
-  pub field-lands : {A : Type 0} {m : Reader A} → Field m → (at n : ℕ) → skipped frame at m ≡ Next n → Landed m at n
+  pub field-lands : {A : Type 0} {m : Reader A} → Field m → (at n : ℕ) → skipped frame at m ≡ FormEnd.next n → Landed m at n
   field-lands f at n e = let h = begins f at n e in lands (f .ends) at n (omega arith) e
 
-  pub landsE : (o : Open) (at n : ℕ) → skipped frame at (readE o) ≡ Next n → Landed (readE o) at n
+  pub landsE : (o : Open) (at n : ℕ) → skipped frame at (readE o) ≡ FormEnd.next n → Landed (readE o) at n
   landsE o = field-lands (fieldE o)
 
-  pub landsC : (o : Open) (at n : ℕ) → skipped frame at (readC o) ≡ Next n → Landed (readC o) at n
+  pub landsC : (o : Open) (at n : ℕ) → skipped frame at (readC o) ≡ FormEnd.next n → Landed (readC o) at n
   landsC o = field-lands (fieldC o)
 
   -- ---- chains
@@ -108,7 +106,7 @@ module _ (frame : List ℕ) where
   landed-next l f = ap (λ x. skipOf frame (andThen x f)) (l .reads)
 
   -- a call that answered r, and then one from where it ended
-  module _ {A : Type 0} {m : Reader A} (s : Field m) (at : ℕ) {n : ℕ} {r : Skip} (e : r ≡ skipped frame at m) (k : r ≡ Next n) where
+  module _ {A : Type 0} {m : Reader A} (s : Field m) (at : ℕ) {n : ℕ} {r : FormEnd} (e : r ≡ skipped frame at m) (k : r ≡ FormEnd.next n) where
     pub then-further : (at ≤ n) × (n ≤ length frame)
     then-further = let l = field-lands s at n (sym e ∙ k) in (l .further, l .inside)
 
@@ -119,11 +117,11 @@ module _ (frame : List ℕ) where
     pub then-more : (more : Reader (List A)) → skipped frame at (m >>= λ x. more >>= λ xs. done (x ∷ xs)) ≡ skipped frame n more
     then-more more = then-next (λ x. level-done more (λ xs. x ∷ xs))
 
-  pub then-stop : {A B : Type 0} (m : Reader A) (f : A → Reader B) (at n : ℕ) {r : Skip} → r ≡ skipped frame at m → r ≡ Refused n
-      → skipped frame at (m >>= f) ≡ Refused n
+  pub then-stop : {A B : Type 0} (m : Reader A) (f : A → Reader B) (at n : ℕ) {r : FormEnd} → r ≡ skipped frame at m → r ≡ FormEnd.refused n
+      → skipped frame at (m >>= f) ≡ FormEnd.refused n
   unfolding skipped
   then-stop {A} m f at n e k = go (m (drop at frame)) (sym e ∙ k)
     where
-      go : (x : Read A) → skipOf frame x ≡ Refused n → skipOf frame (andThen x f) ≡ Refused n
+      go : (x : Read A) → skipOf frame x ≡ FormEnd.refused n → skipOf frame (andThen x f) ≡ FormEnd.refused n
       go (Read.ok a rest) q = let z : _≡_ {A = ℕ} 0 1 = cc in absurd (omega arith)
       go (Read.refused k) q = q

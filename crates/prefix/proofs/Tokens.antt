@@ -14,9 +14,7 @@ use Rattle.value.specs.Value.{Operation, Comparison, Connective, aggregateAt}
 use Rattle.meaning.specs.Syntax.{Expr, Cond}
 use Rattle.language.specs.Reading.{Reader, Open, done, _>>=_, byte, byteIf, twoBytes, step, place, choose, expressions, conditions, readE, readC}
 use Rattle.language.proofs.PrefixForms.{readE-step, readC-step}
-use Rattle.prefix.specs.Skipped.{skipOf, skipped, twice, behindE, behindC}
-use Rattle.prefix.specs.declared.Skip.{Skip}
-use Rattle.prefix.specs.declared.Skip.the-variants.{Next, Refused}
+use Rattle.prefix.specs.Skipped.{FormEnd, skipOf, skipped, twice, behindE, behindC}
 use Rattle.prefix.proofs.Ends.{fieldE, fieldC}
 use Rattle.prefix.proofs.Skips.{Level, level-refl, level-done, level-bind, level-at, next-is, past-end, then-further, then-next, then-stop}
 
@@ -97,7 +95,7 @@ module _ (o : Open) where
             let z : leb 0 b ≡ true = le-leb 0 b (omega arith) in
             rw z (level-bind (byteIf 5 (λ n. leb n 3)) (λ n. level-done E (Expr.aggregate (aggregateAt n))) .same frame (b ∷ bs))
 
-    pub unknownE : 8 ≤ t → skipped frame at (behindE o t) ≡ Refused 4
+    pub unknownE : 8 ≤ t → skipped frame at (behindE o t) ≡ FormEnd.refused 4
     unfolding skipped behindE
     unknownE h =
         rw (
@@ -111,7 +109,7 @@ module _ (o : Open) where
           ne-eqb t 0x07 (λ e. omega arith),
         )
 
-    pub on-always : at ≤ length frame → t ≡ 0x10 → skipped frame at (behindC o t) ≡ Next at
+    pub on-always : at ≤ length frame → t ≡ 0x10 → skipped frame at (behindC o t) ≡ FormEnd.next at
     on-always h e = onC 0x10 {m = done Cond.always} level-refl e ∙ next-is frame (done Cond.always) at at h refl
 
     on-equal : OnC 0x11 (twice E)
@@ -146,7 +144,7 @@ module _ (o : Open) where
         (λ e. on-conjunction (eqb-true t 0x15 e))
         (λ n. let p = eqb-false t 0x15 n in on-disjunction (omega arith))
 
-    pub unknownC : (0x10 ≤ t → 0x17 ≤ t) → skipped frame at (behindC o t) ≡ Refused 4
+    pub unknownC : (0x10 ≤ t → 0x17 ≤ t) → skipped frame at (behindC o t) ≡ FormEnd.refused 4
     unfolding skipped behindC
     unknownC h =
         rw (
@@ -164,10 +162,10 @@ module _ (o : Open) where
 
   -- ---- a form
   module _ (frame : List ℕ) (at : ℕ) where
-    abbrev Due : Bool → Skip
+    abbrev Due : Bool → FormEnd
     Due b = cond b (skipped frame at C) (skipped frame at E)
 
-    pub form-ends : (b : Bool) → length frame ≤ at → Due b ≡ Refused 4
+    pub form-ends : (b : Bool) → length frame ≤ at → Due b ≡ FormEnd.refused 4
     form-ends true h = past-end frame (fieldC o) at h
     form-ends false h = past-end frame (fieldE o) at h
 
@@ -180,31 +178,31 @@ module _ (o : Open) where
       unfolding skipped behindC
       formC = ap (λ bs. skipOf frame (C bs)) (from-byte frame at lt) ∙ ap (skipOf frame) (readC-step o _ _)
 
-      pub not-condition : getD frame at 0 < 0x10 → skipped frame at C ≡ Refused 4
+      pub not-condition : getD frame at 0 < 0x10 → skipped frame at C ≡ FormEnd.refused 4
       not-condition h = formC ∙ unknownC frame (at + 1) (getD frame at 0) (λ l. omega arith)
 
-      pub not-expression : 8 ≤ getD frame at 0 → skipped frame at E ≡ Refused 4
+      pub not-expression : 8 ≤ getD frame at 0 → skipped frame at E ≡ FormEnd.refused 4
       not-expression h = formE ∙ unknownE frame (at + 1) (getD frame at 0) h
 
-      pub no-form : (b : Bool) → 8 ≤ getD frame at 0 → (0x10 ≤ getD frame at 0 → 0x17 ≤ getD frame at 0) → Due b ≡ Refused 4
+      pub no-form : (b : Bool) → 8 ≤ getD frame at 0 → (0x10 ≤ getD frame at 0 → 0x17 ≤ getD frame at 0) → Due b ≡ FormEnd.refused 4
       no-form true h k = formC ∙ unknownC frame (at + 1) (getD frame at 0) k
       no-form false h k = not-expression h
 
   -- ---- two forms
   module _ (frame : List ℕ) (at : ℕ) where
-    pub pair-further : (b : Bool) {n : ℕ} {r : Skip} → r ≡ Due frame at b → r ≡ Next n → (at ≤ n) × (n ≤ length frame)
+    pub pair-further : (b : Bool) {n : ℕ} {r : FormEnd} → r ≡ Due frame at b → r ≡ FormEnd.next n → (at ≤ n) × (n ≤ length frame)
     pair-further true e k = then-further frame (fieldC o) at e k
     pair-further false e k = then-further frame (fieldE o) at e k
 
-    abbrev Two : Bool → Skip
+    abbrev Two : Bool → FormEnd
     Two b = cond b (skipped frame at (twice C)) (skipped frame at (twice E))
 
-    pub pair-next : (b : Bool) {n : ℕ} {r : Skip} → r ≡ Due frame at b → r ≡ Next n → Two b ≡ Due frame n b
+    pub pair-next : (b : Bool) {n : ℕ} {r : FormEnd} → r ≡ Due frame at b → r ≡ FormEnd.next n → Two b ≡ Due frame n b
     unfolding twice
     pair-next true e k = then-next frame (fieldC o) at e k (λ _. level-refl)
     pair-next false e k = then-next frame (fieldE o) at e k (λ _. level-refl)
 
-    pub pair-stop : (b : Bool) {n : ℕ} {r : Skip} → r ≡ Due frame at b → r ≡ Refused n → Two b ≡ Refused n
+    pub pair-stop : (b : Bool) {n : ℕ} {r : FormEnd} → r ≡ Due frame at b → r ≡ FormEnd.refused n → Two b ≡ FormEnd.refused n
     unfolding twice
     pair-stop true {n} e k = then-stop frame C (λ _. C) at n e k
     pair-stop false {n} e k = then-stop frame E (λ _. E) at n e k

@@ -7,13 +7,23 @@ use Rattle.language.specs.Reading.{Read, Reader, Open, _>>=_, choose, expressio
 use Rattle.prefix.specs.declared.Skip.{Skip}
 use Rattle.prefix.specs.declared.Skip.the-variants.{Next, Refused}
 
--- what was read aside: where the bytes behind it start
-abbrev pub skipOf : {A : Type 0} → List ℕ → Read A → Skip
-skipOf frame (Read.ok a rest) = Next (length frame - length rest)
-skipOf frame (Read.refused n) = Refused n
+-- where the bytes behind a form start, or the number of its refusal
+pub data FormEnd : Type 0 where
+  next : ℕ → FormEnd
+  refused : ℕ → FormEnd
+
+-- what each answer of the code says
+abbrev pub skipTold : Skip → FormEnd
+skipTold (Next n) = FormEnd.next n
+skipTold (Refused n) = FormEnd.refused n
+
+-- what was read aside
+abbrev pub skipOf : {A : Type 0} → List ℕ → Read A → FormEnd
+skipOf frame (Read.ok a rest) = FormEnd.next (length frame - length rest)
+skipOf frame (Read.refused n) = FormEnd.refused n
 
 -- what the reader finds from the position `at` of the frame
-unfoldable pub skipped : {A : Type 0} → List ℕ → ℕ → Reader A → Skip
+unfoldable pub skipped : {A : Type 0} → List ℕ → ℕ → Reader A → FormEnd
 skipped frame at m = skipOf frame (m (drop at frame))
 
 -- two of the same

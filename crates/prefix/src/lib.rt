@@ -9,7 +9,7 @@ ghost use lib.Dec.{ltb, leb};
 ghost use lib.ListN.{length, getD};
 ghost use Rattle.language.specs.Reading.{byteIf, twoBytes, step as stepR, place as placeR, readE, readC};
 ghost use Rattle.catalog.specs.Items.{relationsIn, widthsIn, openIn};
-ghost use Rattle.prefix.specs.Skipped.{skipped, twice, behindE, behindC};
+ghost use Rattle.prefix.specs.Skipped.{skipTold, skipped, twice, behindE, behindC};
 
 // Where the next bytes start, or the number of a refusal.
 pub enum Skip {
@@ -43,7 +43,7 @@ pub fn word_at(frame: &[u8], at: usize) -> u16
 // One byte, whose test the caller has made.
 // Refused: the byte is left; 4 for the number.
 pub fn tested(frame: &[u8], at: usize, number: u8, passes: bool) -> Skip
-    ensures { λ r. ⌜ r ≡ skipped (now (frame .entry)) at (byteIf number (λ _. passes)) ⌝ }
+    ensures { λ r. ⌜ skipTold r ≡ skipped (now (frame .entry)) at (byteIf number (λ _. passes)) ⌝ }
 {
     if frame.len() <= at {
         return Skip::Refused(4);
@@ -58,7 +58,7 @@ pub fn tested(frame: &[u8], at: usize, number: u8, passes: bool) -> Skip
 // One byte below n.
 // Refused: n passes; n for the number.
 pub fn below(frame: &[u8], at: usize, number: u8, n: u8) -> Skip
-    ensures { λ r. ⌜ r ≡ skipped (now (frame .entry)) at (byteIf number (λ b. ltb b n)) ⌝ }
+    ensures { λ r. ⌜ skipTold r ≡ skipped (now (frame .entry)) at (byteIf number (λ b. ltb b n)) ⌝ }
 {
     tested(frame, at, number, byte_at(frame, at) < n)
 }
@@ -66,7 +66,7 @@ pub fn below(frame: &[u8], at: usize, number: u8, n: u8) -> Skip
 // One byte from lo to hi.
 // Refused: lo for hi; hi for lo.
 pub fn between(frame: &[u8], at: usize, number: u8, lo: u8, hi: u8) -> Skip
-    ensures { λ r. ⌜ r ≡ skipped (now (frame .entry)) at (byteIf number (λ b. leb lo b && leb b hi)) ⌝ }
+    ensures { λ r. ⌜ skipTold r ≡ skipped (now (frame .entry)) at (byteIf number (λ b. leb lo b && leb b hi)) ⌝ }
 {
     tested(
         frame,
@@ -79,7 +79,7 @@ pub fn between(frame: &[u8], at: usize, number: u8, lo: u8, hi: u8) -> Skip
 // Two bytes.
 // Refused: one byte; a second byte that is not there.
 pub fn two_bytes(frame: &[u8], at: usize) -> Skip
-    ensures { λ r. ⌜ r ≡ skipped (now (frame .entry)) at twoBytes ⌝ }
+    ensures { λ r. ⌜ skipTold r ≡ skipped (now (frame .entry)) at twoBytes ⌝ }
 {
     if frame.len() <= at {
         return Skip::Refused(4);
@@ -93,7 +93,7 @@ pub fn two_bytes(frame: &[u8], at: usize) -> Skip
 // Two bytes from 1 to 1,000.
 // Refused: 0 passes; 1,001 passes.
 pub fn step(frame: &[u8], at: usize) -> Skip
-    ensures { λ r. ⌜ r ≡ skipped (now (frame .entry)) at stepR ⌝ }
+    ensures { λ r. ⌜ skipTold r ≡ skipped (now (frame .entry)) at stepR ⌝ }
 {
     match two_bytes(frame, at) {
         Skip::Next(next) => if within(word_at(frame, at), 1, 1000) {
@@ -108,7 +108,7 @@ pub fn step(frame: &[u8], at: usize) -> Skip
 // A from item, and one of its columns.
 // Refused: 5 for 6; the columns of the first from item.
 pub fn place(frame: &[u8], at: usize, items: Items, shape: &[u8]) -> Skip
-    ensures { λ r. ⌜ r ≡ skipped (now (frame .entry)) at (placeR (widthsIn (now (shape .entry)) (relationsIn items))) ⌝ }
+    ensures { λ r. ⌜ skipTold r ≡ skipped (now (frame .entry)) at (placeR (widthsIn (now (shape .entry)) (relationsIn items))) ⌝ }
 {
     let item = byte_at(frame, at);
     match tested(frame, at, 6, item < items.number) {
@@ -120,7 +120,7 @@ pub fn place(frame: &[u8], at: usize, items: Items, shape: &[u8]) -> Skip
 // A condition where one is due, else an expression: the token's range says which of the two it begins.
 // Refused: 07 is unknown; 10 is unknown.
 pub fn form(frame: &[u8], at: usize, items: Items, shape: &[u8], condition: bool) -> Skip
-    ensures { λ r. ⌜ r ≡ cond condition (skipped (now (frame .entry)) at (readC (openIn (now (shape .entry)) (relationsIn items)))) (skipped (now (frame .entry)) at (readE (openIn (now (shape .entry)) (relationsIn items)))) ⌝ }
+    ensures { λ r. ⌜ skipTold r ≡ cond condition (skipped (now (frame .entry)) at (readC (openIn (now (shape .entry)) (relationsIn items)))) (skipped (now (frame .entry)) at (readE (openIn (now (shape .entry)) (relationsIn items)))) ⌝ }
 {
     if frame.len() <= at {
         return Skip::Refused(4);
@@ -145,7 +145,7 @@ pub fn form(frame: &[u8], at: usize, items: Items, shape: &[u8], condition: bool
 // An expression.
 // Refused: a condition; the form at 0.
 pub fn expression(frame: &[u8], at: usize, items: Items, shape: &[u8]) -> Skip
-    ensures { λ r. ⌜ r ≡ skipped (now (frame .entry)) at (readE (openIn (now (shape .entry)) (relationsIn items))) ⌝ }
+    ensures { λ r. ⌜ skipTold r ≡ skipped (now (frame .entry)) at (readE (openIn (now (shape .entry)) (relationsIn items))) ⌝ }
 {
     form(frame, at, items, shape, false)
 }
@@ -153,14 +153,14 @@ pub fn expression(frame: &[u8], at: usize, items: Items, shape: &[u8]) -> Skip
 // A condition.
 // Refused: the form at 0; an expression.
 pub fn condition(frame: &[u8], at: usize, items: Items, shape: &[u8]) -> Skip
-    ensures { λ r. ⌜ r ≡ skipped (now (frame .entry)) at (readC (openIn (now (shape .entry)) (relationsIn items))) ⌝ }
+    ensures { λ r. ⌜ skipTold r ≡ skipped (now (frame .entry)) at (readC (openIn (now (shape .entry)) (relationsIn items))) ⌝ }
 {
     form(frame, at, items, shape, true)
 }
 
 // Two conditions, or two expressions.
 fn pair(frame: &[u8], at: usize, items: Items, shape: &[u8], condition: bool) -> Skip
-    ensures { λ r. ⌜ r ≡ cond condition (skipped (now (frame .entry)) at (twice (readC (openIn (now (shape .entry)) (relationsIn items))))) (skipped (now (frame .entry)) at (twice (readE (openIn (now (shape .entry)) (relationsIn items))))) ⌝ }
+    ensures { λ r. ⌜ skipTold r ≡ cond condition (skipped (now (frame .entry)) at (twice (readC (openIn (now (shape .entry)) (relationsIn items))))) (skipped (now (frame .entry)) at (twice (readE (openIn (now (shape .entry)) (relationsIn items))))) ⌝ }
 {
     match form(frame, at, items, shape, condition) {
         Skip::Next(next) => form(frame, next, items, shape, condition),
@@ -170,7 +170,7 @@ fn pair(frame: &[u8], at: usize, items: Items, shape: &[u8], condition: bool) ->
 
 // What stands behind an expression's token.
 fn behind_expression(frame: &[u8], at: usize, items: Items, shape: &[u8], token: u8) -> Skip
-    ensures { λ r. ⌜ r ≡ skipped (now (frame .entry)) at (behindE (openIn (now (shape .entry)) (relationsIn items)) token) ⌝ }
+    ensures { λ r. ⌜ skipTold r ≡ skipped (now (frame .entry)) at (behindE (openIn (now (shape .entry)) (relationsIn items)) token) ⌝ }
 {
     match token {
         0x00 => two_bytes(frame, at),
@@ -195,7 +195,7 @@ fn behind_expression(frame: &[u8], at: usize, items: Items, shape: &[u8], token:
 // What stands behind a condition's token.
 fn behind_condition(frame: &[u8], at: usize, items: Items, shape: &[u8], token: u8) -> Skip
     requires { ⌜ at ≤ length (now frame) ⌝ }
-    ensures { λ r. ⌜ r ≡ skipped (now (frame .entry)) at (behindC (openIn (now (shape .entry)) (relationsIn items)) token) ⌝ }
+    ensures { λ r. ⌜ skipTold r ≡ skipped (now (frame .entry)) at (behindC (openIn (now (shape .entry)) (relationsIn items)) token) ⌝ }
 {
     match token {
         0x10 => Skip::Next(at),

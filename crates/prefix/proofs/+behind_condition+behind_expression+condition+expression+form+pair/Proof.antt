@@ -1,12 +1,13 @@
 -- The cycle of forms meets its contracts: `prefix::form`, `expression`, `condition`, `pair`, `behind_expression`, `behind_condition`.
 -- The measure is the number of bytes left, three times, so that a call at the same place can be below its caller. Assumes nothing.
-use mathlib.Core.Path.{sym, _∙_}
+use mathlib.Core.Path.{ap, sym, _∙_}
 use mathlib.Core.Bool.{Bool, _&&_}
 use lib.Dec.{leb}
 use Prim.Native.Nat.{ℕ, _+_, _-_, _*_, _<_}
 use native.Mathlib.Omega.{arith}
 use lib.ListN.{length}
 use borrow.Author.Needs.{needs}
+use Rattle.prefix.specs.Skipped.{skipTold}
 use borrow.Fn.Kinds.{In}
 use borrow.Fn.PlainCycle.{Measures, is, falls, and}
 use Rattle.language.specs.Reading.{byteIf, step, readC}
@@ -178,7 +179,7 @@ module _ (t : ℕ) where
   behind-expression-enum-known-next c = search needs
 
   behind-expression-expression-requires : behind-expression-lts.Need-expression-requires behind-expression-uses (behind-expression-at t) behind-expression.Post
-  behind-expression-expression-requires c κs = let h = then-further _ field-step _ (c .before .before .before .step .ensures) (c .before .next .given .1) in (omega arith, tt)
+  behind-expression-expression-requires c κs = let h = then-further _ field-step _ (c .before .before .before .step .ensures) (ap skipTold (c .before .next .given .1)) in (omega arith, tt)
 
   behind-expression-enum-known-n : behind-expression-lts.Need-enum-known-n behind-expression-uses (behind-expression-at t) behind-expression.Post
   behind-expression-enum-known-n c = search needs
@@ -190,7 +191,7 @@ module _ (t : ℕ) where
   behind-expression-enum-known-next-2 c = search needs
 
   behind-expression-pair-requires : behind-expression-lts.Need-pair-requires behind-expression-uses (behind-expression-at t) behind-expression.Post
-  behind-expression-pair-requires c κs = let h = then-further _ (fieldC _) _ (c .before .before .before .condition .ensures) (c .before .next2 .given .1) in (omega arith, tt)
+  behind-expression-pair-requires c κs = let h = then-further _ (fieldC _) _ (c .before .before .before .condition .ensures) (ap skipTold (c .before .next2 .given .1)) in (omega arith, tt)
 
   behind-expression-enum-known-n-2 : behind-expression-lts.Need-enum-known-n-2 behind-expression-uses (behind-expression-at t) behind-expression.Post
   behind-expression-enum-known-n-2 c = search needs
@@ -202,7 +203,7 @@ module _ (t : ℕ) where
   behind-expression-enum-known-next-3 c = search needs
 
   behind-expression-expression-requires-2 : behind-expression-lts.Need-expression-requires-2 behind-expression-uses (behind-expression-at t) behind-expression.Post
-  behind-expression-expression-requires-2 c κs = let h = then-further _ (field-if 5 kinds) _ (c .before .before .before .between .ensures) (c .before .next3 .given .1) in (omega arith, tt)
+  behind-expression-expression-requires-2 c κs = let h = then-further _ (field-if 5 kinds) _ (c .before .before .before .between .ensures) (ap skipTold (c .before .next3 .given .1)) in (omega arith, tt)
 
   behind-expression-enum-known-n-3 : behind-expression-lts.Need-enum-known-n-3 behind-expression-uses (behind-expression-at t) behind-expression.Post
   behind-expression-enum-known-n-3 c = search needs
@@ -217,22 +218,25 @@ module _ (t : ℕ) where
   behind-expression-returns-2 c = c .place .ensures ∙ sym (on-place _ _ _ _ (c .before .match .keys2))
 
   behind-expression-returns-3 : behind-expression-lts.Need-returns-3 behind-expression-uses (behind-expression-at t) behind-expression.Post
-  behind-expression-returns-3 c = c .expression .ensures ∙ sym (on-rounding _ _ _ _ (c .before .before .before .before .before .match .keys3) ∙ then-next _ field-step _ (c .before .before .before .before .step .ensures) (c .before .before .next .given .1) (λ _. level-refl))
+  behind-expression-returns-3 c = c .expression .ensures ∙ sym (on-rounding _ _ _ _ (c .before .before .before .before .before .match .keys3)
+      ∙ then-next _ field-step _ (c .before .before .before .before .step .ensures) (ap skipTold (c .before .before .next .given .1)) (λ _. level-refl))
 
   behind-expression-returns-4 : behind-expression-lts.Need-returns-4 behind-expression-uses (behind-expression-at t) behind-expression.Post
-  behind-expression-returns-4 c = sym (on-rounding _ _ _ _ (c .before .before .before .before .match .keys3) ∙ then-stop _ step _ _ _ (c .before .before .before .step .ensures) (c .before .n .given .1))
+  behind-expression-returns-4 c = sym (on-rounding _ _ _ _ (c .before .before .before .before .match .keys3) ∙ then-stop _ step _ _ _ (c .before .before .before .step .ensures) (ap skipTold (c .before .n .given .1)))
 
   behind-expression-returns-5 : behind-expression-lts.Need-returns-5 behind-expression-uses (behind-expression-at t) behind-expression.Post
-  behind-expression-returns-5 c = c .pair .ensures ∙ sym (on-choice _ _ _ _ (c .before .before .before .before .before .match .keys4) ∙ then-next _ (fieldC _) _ (c .before .before .before .before .condition .ensures) (c .before .before .next2 .given .1) (λ _. level-refl))
+  behind-expression-returns-5 c = c .pair .ensures ∙ sym (on-choice _ _ _ _ (c .before .before .before .before .before .match .keys4)
+      ∙ then-next _ (fieldC _) _ (c .before .before .before .before .condition .ensures) (ap skipTold (c .before .before .next2 .given .1)) (λ _. level-refl))
 
   behind-expression-returns-6 : behind-expression-lts.Need-returns-6 behind-expression-uses (behind-expression-at t) behind-expression.Post
-  behind-expression-returns-6 c = sym (on-choice _ _ _ _ (c .before .before .before .before .match .keys4) ∙ then-stop _ (readC _) _ _ _ (c .before .before .before .condition .ensures) (c .before .n2 .given .1))
+  behind-expression-returns-6 c = sym (on-choice _ _ _ _ (c .before .before .before .before .match .keys4) ∙ then-stop _ (readC _) _ _ _ (c .before .before .before .condition .ensures) (ap skipTold (c .before .n2 .given .1)))
 
   behind-expression-returns-7 : behind-expression-lts.Need-returns-7 behind-expression-uses (behind-expression-at t) behind-expression.Post
-  behind-expression-returns-7 c = c .expression2 .ensures ∙ sym (on-aggregate _ _ _ _ (c .before .before .before .before .before .match .keys5) ∙ then-next _ (field-if 5 kinds) _ (c .before .before .before .before .between .ensures) (c .before .before .next3 .given .1) (λ _. level-refl))
+  behind-expression-returns-7 c = c .expression2 .ensures ∙ sym (on-aggregate _ _ _ _ (c .before .before .before .before .before .match .keys5)
+      ∙ then-next _ (field-if 5 kinds) _ (c .before .before .before .before .between .ensures) (ap skipTold (c .before .before .next3 .given .1)) (λ _. level-refl))
 
   behind-expression-returns-8 : behind-expression-lts.Need-returns-8 behind-expression-uses (behind-expression-at t) behind-expression.Post
-  behind-expression-returns-8 c = sym (on-aggregate _ _ _ _ (c .before .before .before .before .match .keys5) ∙ then-stop _ (byteIf 5 kinds) _ _ _ (c .before .before .before .between .ensures) (c .before .n3 .given .1))
+  behind-expression-returns-8 c = sym (on-aggregate _ _ _ _ (c .before .before .before .before .match .keys5) ∙ then-stop _ (byteIf 5 kinds) _ _ _ (c .before .before .before .between .ensures) (ap skipTold (c .before .n3 .given .1)))
 
   behind-expression-returns-9 : behind-expression-lts.Need-returns-9 behind-expression-uses (behind-expression-at t) behind-expression.Post
   behind-expression-returns-9 c =
@@ -294,16 +298,16 @@ module _ (t : ℕ) where
   pair-enum-known-next c = search needs
 
   pair-form-requires-2 : pair-lts.Need-form-requires-2 pair-uses (pair-at t) pair.Post
-  pair-form-requires-2 c κs = let h = pair-further _ _ _ (c .before .before .before .before .before .before .args .condition) (c .before .before .before .form .ensures) (c .before .next .given .1) in (omega arith, tt)
+  pair-form-requires-2 c κs = let h = pair-further _ _ _ (c .before .before .before .before .before .before .args .condition) (c .before .before .before .form .ensures) (ap skipTold (c .before .next .given .1)) in (omega arith, tt)
 
   pair-enum-known-n : pair-lts.Need-enum-known-n pair-uses (pair-at t) pair.Post
   pair-enum-known-n c = search needs
 
   pair-returns : pair-lts.Need-returns pair-uses (pair-at t) pair.Post
-  pair-returns c = c .form2 .ensures ∙ sym (pair-next _ _ _ (c .before .before .before .before .before .before .before .args .condition) (c .before .before .before .before .form .ensures) (c .before .before .next .given .1))
+  pair-returns c = c .form2 .ensures ∙ sym (pair-next _ _ _ (c .before .before .before .before .before .before .before .args .condition) (c .before .before .before .before .form .ensures) (ap skipTold (c .before .before .next .given .1)))
 
   pair-returns-2 : pair-lts.Need-returns-2 pair-uses (pair-at t) pair.Post
-  pair-returns-2 c = sym (pair-stop _ _ _ (c .before .before .before .before .before .before .args .condition) (c .before .before .before .form .ensures) (c .before .n .given .1))
+  pair-returns-2 c = sym (pair-stop _ _ _ (c .before .before .before .before .before .before .args .condition) (c .before .before .before .form .ensures) (ap skipTold (c .before .n .given .1)))
 
 pub +behind-condition+behind-expression+condition+expression+form+pair-spec : {M : Type 1} → statement M
 +behind-condition+behind-expression+condition+expression+form+pair-spec =

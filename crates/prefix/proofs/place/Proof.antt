@@ -3,6 +3,7 @@ use lib.Dec.{ltb}
 use lib.ListN.{getD}
 use mathlib.Core.Path.{sym, ap, ap₂, _∙_}
 use borrow.Author.Needs.{needs}
+use Rattle.prefix.specs.Skipped.{skipTold}
 use Rattle.catalog.specs.Items.{relationsIn, widthsIn}
 use Rattle.catalog.proofs.ItemLaws.{widths-number}
 use Rattle.prefix.proofs.Fields.{place-next, place-stop}
@@ -32,7 +33,7 @@ returns c = c .below .ensures
     ∙ sym (place-next _ _ (widthsIn (c .before .before .before .before .before .before .before .before .before .before .args .shape .now) (relationsIn
     (c .before .before .before .before .before .before .before .before .before .before .args .items)))
     (ap₂ ltb (c .before .before .before .before .before .before .before .byte-at .ensures) (widths-number (c .before .before .before .before .before .before .before .before .before .before .args .items)
-    (c .before .before .before .before .before .before .before .before .before .before .args .shape .now))) (c .before .before .before .before .before .tested .ensures) (c .before .before .before .next .given .1)
+    (c .before .before .before .before .before .before .before .before .before .before .args .shape .now))) (c .before .before .before .before .before .tested .ensures) (ap skipTold (c .before .before .before .next .given .1))
     (c .before .width .ensures
     ∙ ap (λ i. getD (widthsIn (c .before .before .before .before .before .before .before .before .before .before .args .shape .now) (relationsIn
     (c .before .before .before .before .before .before .before .before .before .before .args .items))) i 0) (c .before .before .before .before .before .before .before .byte-at .ensures)))
@@ -41,7 +42,7 @@ returns-2 : tie.Need-returns-2
 returns-2 c = sym (place-stop _ _ (widthsIn (c .before .before .before .before .before .before .before .before .args .shape .now) (relationsIn (c .before .before .before .before .before .before .before .before .args .items)))
     (ap₂ ltb (c .before .before .before .before .before .byte-at .ensures) (widths-number (c .before .before .before .before .before .before .before .before .args .items)
     (c .before .before .before .before .before .before .before .before .args .shape .now)))
-    (c .before .before .before .tested .ensures) (c .before .n .given .1))
+    (c .before .before .before .tested .ensures) (ap skipTold (c .before .n .given .1)))
 
 pub place-spec : {M : Type 1} → statement M
 place-spec =

@@ -3,6 +3,7 @@ use mathlib.Core.Path.{ap, sym, _∙_}
 use mathlib.Core.Bool.{_&&_}
 use lib.Dec.{leb}
 use borrow.Author.Needs.{needs}
+use Rattle.prefix.specs.Skipped.{skipTold}
 use Rattle.language.specs.Reading.{twoBytes}
 use Rattle.prefix.proofs.Skips.{then-stop}
 use Rattle.prefix.proofs.Fields.{step-in, step-over}
@@ -25,13 +26,15 @@ enum-known-n : tie.Need-enum-known-n
 enum-known-n c = search needs
 
 returns : tie.Need-returns
-returns c = sym (step-in _ _ (c .before .before .before .before .before .before .two-bytes .ensures) (c .before .before .before .before .next .given .1) (ap (λ w. leb 1 w && leb w 1000) (sym (c .before .before .word-at .ensures)) ∙ sym (c .before .within .ensures) ∙ c .if1 .taken))
+returns c = sym (step-in _ _ (c .before .before .before .before .before .before .two-bytes .ensures) (ap skipTold (c .before .before .before .before .next .given .1))
+    (ap (λ w. leb 1 w && leb w 1000) (sym (c .before .before .word-at .ensures)) ∙ sym (c .before .within .ensures) ∙ c .if1 .taken))
 
 returns-2 : tie.Need-returns-2
-returns-2 c = sym (step-over _ _ (c .before .before .before .before .before .before .two-bytes .ensures) (c .before .before .before .before .next .given .1) (ap (λ w. leb 1 w && leb w 1000) (sym (c .before .before .word-at .ensures)) ∙ sym (c .before .within .ensures) ∙ c .if1 .left))
+returns-2 c = sym (step-over _ _ (c .before .before .before .before .before .before .two-bytes .ensures) (ap skipTold (c .before .before .before .before .next .given .1))
+    (ap (λ w. leb 1 w && leb w 1000) (sym (c .before .before .word-at .ensures)) ∙ sym (c .before .within .ensures) ∙ c .if1 .left))
 
 returns-3 : tie.Need-returns-3
-returns-3 c = sym (then-stop _ twoBytes _ _ _ (c .before .before .before .two-bytes .ensures) (c .before .n .given .1))
+returns-3 c = sym (then-stop _ twoBytes _ _ _ (c .before .before .before .two-bytes .ensures) (ap skipTold (c .before .n .given .1)))
 
 pub step-spec : {M : Type 1} → statement M
 step-spec =

@@ -5,20 +5,20 @@ use native.Mathlib.Omega.{arith}
 use lib.ListN.{length}
 use borrow.Author.Needs.{needs}
 use Rattle.range.specs.Ranges.{hullOf}
-use Rattle.checker.specs.Entries.{hullAt}
-use Rattle.catalog.proofs.ArrayLaws.{puts-none, put-length}
-use Rattle.checker.proofs.SetLaws.{HullsSoFar, hulls-more}
+use Rattle.checker.specs.Entries.{hullAt, putHulls}
+use Rattle.catalog.proofs.ArrayLaws.{put-length}
+use Rattle.checker.proofs.SetLaws.{hulls-none, hulls-more}
 use Rattle.checker.proofs.entries.put_hulls.Statement.{statement}
 use Rattle.checker.proofs.entries.put_hulls.Tie as tie
 
 abbrev Inv-loop : tie.InvT-loop
-Inv-loop shape ends₀ left right r width c₀ ends c = (c ≤ width) × (length ends ≡ length ends₀) × HullsSoFar shape ends₀ left right r c ends
+Inv-loop shape ends₀ left right r width c₀ ends c = (c ≤ width) × (length ends ≡ length ends₀) × (ends ≡ putHulls shape ends₀ left right r c)
 
 abbrev μ-loop : tie.MeasureT-loop
 μ-loop shape ends₀ left right r width c₀ ends c = width - c
 
 loop-holds : tie.Need-loop-holds Inv-loop μ-loop
-loop-holds c = (omega arith, refl, λ _ _. puts-none _ (c .before .args .ends .now) (c .before .args .r))
+loop-holds c = (omega arith, refl, hulls-none _ _ _ _ _)
 
 range-at-requires : tie.Need-range-at-requires Inv-loop μ-loop
 range-at-requires c κs = search needs
@@ -57,7 +57,7 @@ same-length : tie.Need-same-length Inv-loop μ-loop
 same-length c = search needs
 
 returns : tie.Need-returns Inv-loop μ-loop
-returns c = let e : c .before .loop .c ≡ c .before .before .before .args .width = omega arith in record { stored = rw e at (c .before .loop .inv .2) }
+returns c = let e : c .before .loop .c ≡ c .before .before .before .args .width = omega arith in rw e at (c .before .loop .inv .2)
 
 pub put-hulls-spec : {M : Type 1} → statement M
 put-hulls-spec =

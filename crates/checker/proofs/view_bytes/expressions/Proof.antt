@@ -1,7 +1,8 @@
 -- `checker::view_bytes::expressions` meets its contract. Assumes nothing.
 use borrow.Author.Needs.{needs}
+use Rattle.prefix.specs.Skipped.{skipTold}
 use native.Mathlib.Omega.{arith}
-use mathlib.Core.Path.{sym}
+use mathlib.Core.Path.{ap, sym}
 use Rattle.language.specs.Reading.{readE}
 use Rattle.catalog.specs.Items.{relationsIn, openIn}
 use Rattle.prefix.proofs.Ends.{fieldE}
@@ -28,7 +29,7 @@ enum-known-number : tie.Need-enum-known-number Inv-loop μ-loop
 enum-known-number c = search needs
 
 returns : tie.Need-returns Inv-loop μ-loop
-returns c = sym (repeat-stops _ (fieldE _) _ _ (c .before .before .before .before .before .loop .inv) (omega arith) (c .before .before .before .expression .ensures) (c .before .number .given .1))
+returns c = sym (repeat-stops _ (fieldE _) _ _ (c .before .before .before .before .before .loop .inv) (omega arith) (c .before .before .before .expression .ensures) (ap skipTold (c .before .number .given .1)))
 
 sub-left : tie.Need-sub-left Inv-loop μ-loop
 sub-left c = omega arith
@@ -37,7 +38,7 @@ loop-less : tie.Need-loop-less Inv-loop μ-loop
 loop-less c = omega arith
 
 loop-again : tie.Need-loop-again Inv-loop μ-loop
-loop-again c = repeat-again _ (fieldE _) _ _ (c .before .before .before .before .before .loop .inv) (omega arith) (c .before .before .before .expression .ensures) (c .before .end .given .1)
+loop-again c = repeat-again _ (fieldE _) _ _ (c .before .before .before .before .before .loop .inv) (omega arith) (c .before .before .before .expression .ensures) (ap skipTold (c .before .end .given .1))
 
 returns-2 : tie.Need-returns-2 Inv-loop μ-loop
 returns-2 c = sym (repeat-ends _ (fieldE _) _ _ (c .before .loop .inv) (omega arith))

@@ -1,7 +1,8 @@
 -- `checker::view_bytes::places` meets its contract. Assumes nothing.
 use borrow.Author.Needs.{needs}
+use Rattle.prefix.specs.Skipped.{skipTold}
 use native.Mathlib.Omega.{arith}
-use mathlib.Core.Path.{sym, _∙_}
+use mathlib.Core.Path.{ap, sym, _∙_}
 use Rattle.language.specs.Frames.{placeField}
 use Rattle.catalog.specs.Items.{relationsIn, widthsIn}
 use Rattle.checker.proofs.ViewByteLaws.{place-skips, place-field, Repeated, repeat-holds, repeat-again, repeat-stops, repeat-ends}
@@ -30,7 +31,7 @@ returns : tie.Need-returns Inv-loop μ-loop
 returns c = sym (repeat-stops _ (place-field (widthsIn (c .before .before .before .before .before .before .before .before .args .shape .now) (relationsIn
     (c .before .before .before .before .before .before .before .before .args .items)))) _ _ (c .before .before .before .before .before .loop .inv) (omega arith)
     (c .before .before .before .place .ensures ∙ place-skips _ (widthsIn (c .before .before .before .before .before .before .before .before .args .shape .now) (relationsIn
-    (c .before .before .before .before .before .before .before .before .args .items))) _) (c .before .number .given .1))
+    (c .before .before .before .before .before .before .before .before .args .items))) _) (ap skipTold (c .before .number .given .1)))
 
 sub-left : tie.Need-sub-left Inv-loop μ-loop
 sub-left c = omega arith
@@ -42,7 +43,7 @@ loop-again : tie.Need-loop-again Inv-loop μ-loop
 loop-again c = repeat-again _ (place-field (widthsIn (c .before .before .before .before .before .before .before .before .args .shape .now) (relationsIn
     (c .before .before .before .before .before .before .before .before .args .items)))) _ _ (c .before .before .before .before .before .loop .inv) (omega arith)
     (c .before .before .before .place .ensures ∙ place-skips _ (widthsIn (c .before .before .before .before .before .before .before .before .args .shape .now) (relationsIn
-    (c .before .before .before .before .before .before .before .before .args .items))) _) (c .before .end .given .1)
+    (c .before .before .before .before .before .before .before .before .args .items))) _) (ap skipTold (c .before .end .given .1))
 
 returns-2 : tie.Need-returns-2 Inv-loop μ-loop
 returns-2 c = sym (repeat-ends _ (place-field (widthsIn (c .before .before .before .before .args .shape .now) (relationsIn (c .before .before .before .before .args .items)))) _ _ (c .before .loop .inv) (omega arith))

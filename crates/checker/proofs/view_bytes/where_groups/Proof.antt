@@ -1,5 +1,7 @@
 -- `checker::view_bytes::where_groups` meets its contract. Assumes nothing.
+use mathlib.Core.Path.{ap}
 use borrow.Author.Needs.{needs}
+use Rattle.prefix.specs.Skipped.{skipTold}
 use Rattle.catalog.specs.Items.{relationsIn, widthsIn}
 use Rattle.checker.proofs.ViewByteLaws.{condition-inside, groups-next, groups-stop, where-stop}
 use Rattle.checker.proofs.view_bytes.where_groups.Statement.{statement}
@@ -12,7 +14,7 @@ enum-known-next : tie.Need-enum-known-next
 enum-known-next c = search needs
 
 places-requires : tie.Need-places-requires
-places-requires c κs = condition-inside _ _ _ (c .before .before .before .condition .ensures) (c .before .next .given .1)
+places-requires c κs = condition-inside _ _ _ (c .before .before .before .condition .ensures) (ap skipTold (c .before .next .given .1))
 
 enum-known-having : tie.Need-enum-known-having
 enum-known-having c = search needs
@@ -29,15 +31,15 @@ enum-known-number-2 c = search needs
 returns : tie.Need-returns
 returns c = groups-next _ (widthsIn (c .before .before .before .before .before .before .before .before .before .before .before .args .shape .now) (relationsIn
     (c .before .before .before .before .before .before .before .before .before .before .before .args .items))) _ (c .before .before .before .before .before .before .before .before .condition .ensures) _ _
-    (c .before .before .before .before .before .before .next .given .1) (c .before .before .before .before .places .ensures) (c .before .before .having .given .1) (c .condition-select .ensures)
+    (ap skipTold (c .before .before .before .before .before .before .next .given .1)) (c .before .before .before .before .places .ensures) (ap skipTold (c .before .before .having .given .1)) (c .condition-select .ensures)
 
 returns-2 : tie.Need-returns-2
 returns-2 c = groups-stop _ (widthsIn (c .before .before .before .before .before .before .before .before .before .before .args .shape .now) (relationsIn
     (c .before .before .before .before .before .before .before .before .before .before .args .items))) _ (c .before .before .before .before .before .before .before .condition .ensures) _ _
-    (c .before .before .before .before .before .next .given .1) (c .before .before .before .places .ensures) (c .before .number .given .1)
+    (ap skipTold (c .before .before .before .before .before .next .given .1)) (c .before .before .before .places .ensures) (ap skipTold (c .before .number .given .1))
 
 returns-3 : tie.Need-returns-3
-returns-3 c = where-stop _ _ _ (c .before .before .before .condition .ensures) _ _ (c .before .number2 .given .1)
+returns-3 c = where-stop _ _ _ (c .before .before .before .condition .ensures) _ _ (ap skipTold (c .before .number2 .given .1))
 
 pub where-groups-spec : {M : Type 1} → statement M
 where-groups-spec =
