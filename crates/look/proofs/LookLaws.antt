@@ -12,7 +12,7 @@ use Rattle.value.specs.Value.{Value, shown}
 use Rattle.value.proofs.Decides.{by-test}
 use Rattle.meaning.specs.Syntax.{File}
 use Rattle.meaning.specs.Candidates.{candidates}
-use Rattle.meaning.specs.Look.{Answer, zeros, workSize}
+use Rattle.meaning.specs.Look.{Answer, After, zeros, workSize}
 use Rattle.meaning.specs.Decided.{refusal, shownIn, afterSearch, look}
 use Rattle.meaning.proofs.LookTests.{look-short, look-late, look-on, search-case, search-none}
 use Rattle.language.specs.Check.{Outcome}

@@ -7,7 +7,7 @@ use lib.Dec.{eqb}
 use lib.IntN.{ℤ, pos}
 use lib.ListN.{length, getD}
 use Rattle.meaning.specs.Syntax.{File}
-use Rattle.meaning.specs.Look.{Answer, zeros, workSize}
+use Rattle.meaning.specs.Look.{Answer, After, zeros, workSize}
 use Rattle.meaning.specs.Decided.{refusal, look}
 use Rattle.catalog.specs.Arrays.{widthAt, boundAt}
 use Rattle.catalog.specs.FileIn.{PlanOf}
