@@ -34,7 +34,7 @@ fn note_rows(frame: &[u8], shape: &[u8], counts: &mut [u8], work: &mut [i32], v:
 
 // The views whose rows are needed or whose sign is asked, from the first to the last. `counts` has the number of rows of each relation,
 // at first of the tables; `signs` has 1 for a negative view, else 0.
-// Refused: the first frame for each; no view.
+// Refused: the first frame for each; rows behind the last relation.
 pub fn evaluate(
     bytes: &[u8],
     shape: &[u8],

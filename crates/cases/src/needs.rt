@@ -34,7 +34,7 @@ fn set_names(names: &[u8], shape: &mut [u8], asked: bool)
 }
 
 // Both flags of every relation.
-// Refused: of 15 relations; the first relation's sign alone.
+// Refused: of 15 relations; a flag of relation 16.
 pub fn set_all(shape: &mut [u8])
     ensures { λ _. ⌜ AllSet 16 (now (shape .entry)) (now (shape .exit)) ⌝ }
 {

@@ -72,7 +72,7 @@ fn take_row(shape: &[u8], ends: &[i32], table: u8, width: u8, q: u64) -> TakenRo
 
 // The cells become those of candidate k, row by row from the last row back: the last code tells the last row and its columns. Codes that are of
 // no file may end in less than a row, and it is not put.
-// Refused: those of candidate 0; of candidate 1.
+// Refused: those of candidate 0; rows of another relation.
 pub fn put_candidate(
     shape: &[u8],
     ends: &[i32],
