@@ -58,7 +58,7 @@ fn key_holds(work: &[i32], table: u8, rows: u8, width: u8, mask: u8) -> bool
 
 // Whether the key of each table holds.
 // Refused: the first table's key for each; the first table's columns for each.
-pub fn keys_hold(shape: &[u8], counts: &[u8], work: &[i32], tables: u8) -> bool
+fn keys_hold(shape: &[u8], counts: &[u8], work: &[i32], tables: u8) -> bool
     ensures { λ r. ⌜ KeysHeld (now (shape .entry)) (now (counts .entry)) (now (work .entry)) tables r ⌝ }
 {
     let mut t: u8 = 0;
@@ -134,7 +134,7 @@ fn foreign_key_holds(frame: &[u8], counts: &[u8], work: &[i32]) -> bool
 
 // Whether each of `keys` foreign keys holds; their frames stand at `at`, each behind its length. False where the bytes end before a frame.
 // Refused: the first key alone; a frame's length left out of what is passed; keys behind the end of the bytes.
-pub fn foreign_keys_hold(bytes: &[u8], at: usize, keys: u8, counts: &[u8], work: &[i32]) -> bool
+fn foreign_keys_hold(bytes: &[u8], at: usize, keys: u8, counts: &[u8], work: &[i32]) -> bool
     ensures { λ r. ⌜ r ≡ foreignKeysIn (now (bytes .entry)) at keys (now (counts .entry)) (now (work .entry)) ⌝ }
 {
     let mut next = at;

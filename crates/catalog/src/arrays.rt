@@ -42,7 +42,7 @@ pub fn mask_of(shape: &[u8], r: u8) -> u8
 
 // The place of its frame, the frame's length first.
 // Refused: the low byte alone; the key mask as high byte.
-pub fn start_of(shape: &[u8], r: u8) -> usize
+pub(crate) fn start_of(shape: &[u8], r: u8) -> usize
     ensures { λ n. ⌜ n ≡ startAt (now (shape .entry)) r ⌝ }
 {
     let at = ENTRY * (r as usize);

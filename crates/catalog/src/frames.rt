@@ -5,7 +5,7 @@ use slice::byte_at;
 ghost use mathlib.Core.Path.{_≡_};
 ghost use Prim.Native.Nat.{_+_, min};
 ghost use lib.ListN.{length, getD, take, drop};
-ghost use Rattle.catalog.specs.Frames.{frameAt, frameIn, tablePartsIn, keyPartsIn, fromsIn, namesIn, partsAfter, partsIn, setPartsIn, goalIn};
+ghost use Rattle.catalog.specs.Frames.{frameAt, frameIn, tablePartsIn, keyPartsIn, fromsIn, namesIn, partsAfter, setPartsIn, goalIn};
 
 // Where the columns of a table's frame begin.
 pub const COLUMNS: usize = 4;
@@ -163,12 +163,4 @@ pub fn parts_after(frame: &[u8], grouped: bool) -> Parts
         width: byte_at(frame, items + 2),
         body: items + 3,
     }
-}
-
-// The parts by the frame's kind.
-// Refused: by the from count; those of a basic view for an aggregate one.
-pub fn parts_of(frame: &[u8]) -> Parts
-    ensures { λ r. ⌜ r ≡ partsIn (now (frame .entry)) ⌝ }
-{
-    parts_after(frame, byte_at(frame, 0) == GROUPED)
 }

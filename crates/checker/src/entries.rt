@@ -58,7 +58,7 @@ fn put_columns(frame: &[u8], ends: &mut [i32], r: u8, width: u8)
 
 // The table of a frame without fault as relation r.
 // Refused: the number of columns as row bound; its ranges as relation 0's.
-pub fn enter_table(frame: &[u8], shape: &mut [u8], ends: &mut [i32], r: u8)
+pub(crate) fn enter_table(frame: &[u8], shape: &mut [u8], ends: &mut [i32], r: u8)
     ensures { λ _. ⌜ TableEntered (now (frame .entry)) r (now (shape .entry)) (now (ends .entry)) (now (shape .exit)) (now (ends .exit)) ⌝ }
 {
     let parts = frames::table_parts(frame);
@@ -68,7 +68,7 @@ pub fn enter_table(frame: &[u8], shape: &mut [u8], ends: &mut [i32], r: u8)
 
 // A view as relation r, whose ranges are already stored.
 // Refused: a table; the number of columns as row bound.
-pub fn enter_view(shape: &mut [u8], r: u8, width: u8, bound: u8)
+pub(crate) fn enter_view(shape: &mut [u8], r: u8, width: u8, bound: u8)
     ensures { λ _. ⌜ now (shape .exit) ≡ putShape (now (shape .entry)) r 2 width bound 0 ⌝ }
 {
     arrays::put_shape(shape, r, VIEW, width, bound, 0);
@@ -110,7 +110,7 @@ fn joined_bound(union: bool, a: u8, b: u8) -> u8
 
 // The row bound of a union or an intersection of two relations, at most 255.
 // Refused: the left's row bound twice; the right's twice.
-pub fn set_bound(union: bool, shape: &[u8], left: u8, right: u8) -> u8
+pub(crate) fn set_bound(union: bool, shape: &[u8], left: u8, right: u8) -> u8
     ensures { λ n. ⌜ n ≡ min (setBound (setOperation union) (boundAt (now (shape .entry)) left) (boundAt (now (shape .entry)) right)) 255 ⌝ }
 {
     let a = arrays::bound_of(shape, left);
@@ -136,7 +136,7 @@ fn joined_with(union: bool, left: u8, right: u8) -> u8
 
 // A set view as relation r: the columns of the narrower, for the fault of unequal widths is found elsewhere.
 // Refused: the left's row bound twice; hulls for an intersection.
-pub fn enter_set(union: bool, operands: SetParts, shape: &mut [u8], ends: &mut [i32], r: u8)
+pub(crate) fn enter_set(union: bool, operands: SetParts, shape: &mut [u8], ends: &mut [i32], r: u8)
     ensures { λ _. ⌜ SetEntered (setOperation union) (operands .left) (operands .right) r (now (shape .entry)) (now (ends .entry)) (now (shape .exit)) (now (ends .exit)) ⌝ }
 {
     let left = operands.left;
@@ -188,7 +188,7 @@ fn times_table(shape: &[u8], ends: &[i32], t: u8, n: u64) -> u64
 
 // The number of candidates of a file's tables, the first relations; TOO_MANY stands for any larger number.
 // Refused: 0 with no cells; the first table counted for each.
-pub fn candidates_of(shape: &[u8], ends: &[i32], tables: u8) -> u64
+pub(crate) fn candidates_of(shape: &[u8], ends: &[i32], tables: u8) -> u64
     ensures { λ n. ⌜ CandidatesOf (now (shape .entry)) (now (ends .entry)) tables n ⌝ }
 {
     let mut p: u64 = 1;

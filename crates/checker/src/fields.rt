@@ -6,7 +6,7 @@ ghost use Rattle.checker.specs.Faults.{first, faultAt, under, within, fr
 
 // The first fault of two; 0 is no fault.
 // Refused: the second always; the first always.
-pub fn first_of(m: u8, n: u8) -> u8
+pub(crate) fn first_of(m: u8, n: u8) -> u8
     ensures { λ r. ⌜ r ≡ first m n ⌝ }
 {
     if m == 0 { n } else { m }
@@ -44,7 +44,7 @@ pub fn below(frame: &[u8], at: usize, number: u8, n: u8) -> u8
 
 // A byte from lo on and below n, else the fault `number`.
 // Refused: n itself kept; lo itself refused.
-pub fn from_below(frame: &[u8], at: usize, number: u8, lo: u8, n: u8) -> u8
+pub(crate) fn from_below(frame: &[u8], at: usize, number: u8, lo: u8, n: u8) -> u8
     ensures { λ r. ⌜ r ≡ faultAt (now (frame .entry)) at (byteIf number (fromUnder lo n)) ⌝ }
 {
     if frame.len() <= at {
@@ -59,7 +59,7 @@ pub fn from_below(frame: &[u8], at: usize, number: u8, lo: u8, n: u8) -> u8
 
 // Nothing from `at` on.
 // Refused: a fault where nothing is left; a surplus byte kept.
-pub fn ends_at(frame: &[u8], at: usize) -> u8
+pub(crate) fn ends_at(frame: &[u8], at: usize) -> u8
     ensures { λ r. ⌜ r ≡ faultAt (now (frame .entry)) at (ending at) ⌝ }
 {
     if frame.len() <= at { 0 } else { 4 }

@@ -89,7 +89,7 @@ fn table_columns(frame: &[u8], n: u8) -> u8
 
 // The fault of a table's frame; 0 for none.
 // Refused: as many columns as rows; the columns before the counts.
-pub fn table_fault(frame: &[u8]) -> u8
+pub(crate) fn table_fault(frame: &[u8]) -> u8
     ensures { λ r. ⌜ TableFault (now (frame .entry)) r ⌝ }
 {
     let n = slice::byte_at(frame, 2);
@@ -204,7 +204,7 @@ fn key_body(frame: &[u8], shape: &[u8], child: u8, parent: u8, n: u8) -> u8
 
 // The fault of a foreign key's frame.
 // Refused: the parent as child; the pairs before the tables.
-pub fn key_fault(frame: &[u8], shape: &[u8], tables: u8) -> u8
+pub(crate) fn key_fault(frame: &[u8], shape: &[u8], tables: u8) -> u8
     ensures { λ r. ⌜ KeyFault (now (frame .entry)) (now (shape .entry)) tables r ⌝ }
 {
     let child = slice::byte_at(frame, 1);
@@ -243,7 +243,7 @@ fn set_rules(union: bool, shape: &[u8], i: u8, j: u8) -> u8
 
 // The fault of the frame of a union or an intersection.
 // Refused: the right operand as left; the rules before the bytes.
-pub fn set_fault(frame: &[u8], shape: &[u8], tables: u8, count: u8, union: bool) -> u8
+pub(crate) fn set_fault(frame: &[u8], shape: &[u8], tables: u8, count: u8, union: bool) -> u8
     ensures { λ r. ⌜ SetFault (now (frame .entry)) (now (shape .entry)) tables count (setOperation union) r ⌝ }
 {
     let i = slice::byte_at(frame, 1);
@@ -257,7 +257,7 @@ pub fn set_fault(frame: &[u8], shape: &[u8], tables: u8, count: u8, union: bool)
 
 // The fault of the goal's frame.
 // Refused: a sign of 2; the sign before the view.
-pub fn goal_fault(frame: &[u8], tables: u8, count: u8) -> u8
+pub(crate) fn goal_fault(frame: &[u8], tables: u8, count: u8) -> u8
     ensures { λ r. ⌜ GoalFault (now (frame .entry)) tables count r ⌝ }
 {
     let view = fields::from_below(frame, 1, 6, tables, count);

@@ -67,7 +67,7 @@ fn room_for(s: Progress, stage: u8) -> bool
 
 // 3 for a kind unknown or out of order, 5 for a 17th relation or foreign key.
 // Refused: 5 for 3; a 17th relation kept.
-pub fn turn_fault(s: Progress, kind: u8) -> u8
+pub(crate) fn turn_fault(s: Progress, kind: u8) -> u8
     ensures { λ r. ⌜ r ≡ turnFault s kind ⌝ }
 {
     let stage = stage_of(kind);
@@ -85,7 +85,7 @@ fn one_more(n: u8) -> u8
 
 // One more table.
 // Refused: the keys counted as tables; the stage of foreign keys.
-pub fn with_table(s: Progress) -> Progress
+pub(crate) fn with_table(s: Progress) -> Progress
     ensures { λ r. ⌜ r ≡ withTable s ⌝ }
 {
     Progress {
@@ -100,7 +100,7 @@ pub fn with_table(s: Progress) -> Progress
 
 // One more foreign key.
 // Refused: the tables counted as keys; the stage of tables.
-pub fn with_key(s: Progress) -> Progress
+pub(crate) fn with_key(s: Progress) -> Progress
     ensures { λ r. ⌜ r ≡ withKey s ⌝ }
 {
     Progress {
@@ -115,7 +115,7 @@ pub fn with_key(s: Progress) -> Progress
 
 // One more view.
 // Refused: the tables counted as relations; the stage of the goal.
-pub fn with_view(s: Progress) -> Progress
+pub(crate) fn with_view(s: Progress) -> Progress
     ensures { λ r. ⌜ r ≡ withView s ⌝ }
 {
     let relations = one_more(s.relations);
@@ -131,7 +131,7 @@ pub fn with_view(s: Progress) -> Progress
 
 // The goal.
 // Refused: the sign left out; a frame may follow.
-pub fn with_goal(s: Progress, goal: Goal) -> Progress
+pub(crate) fn with_goal(s: Progress, goal: Goal) -> Progress
     ensures { λ r. ⌜ r ≡ withGoal s goal ⌝ }
 {
     Progress {

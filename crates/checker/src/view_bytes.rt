@@ -158,7 +158,7 @@ fn behind_froms(frame: &[u8], at: usize, items: Items, shape: &[u8], grouped: bo
 
 // The bytes of an aggregate or of a basic view, the relations before it being `count`.
 // Refused: the from list behind the rest; the bytes of a basic view for an aggregate one.
-pub fn bytes_fault(frame: &[u8], shape: &[u8], count: u8, grouped: bool) -> u8
+pub(crate) fn bytes_fault(frame: &[u8], shape: &[u8], count: u8, grouped: bool) -> u8
     ensures { λ r. ⌜ BytesFault grouped (now (frame .entry)) (now (shape .entry)) count r ⌝ }
 {
     let at = wide(slice::byte_at(frame, 1)) + 2;

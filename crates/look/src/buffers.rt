@@ -7,7 +7,7 @@ ghost use Rattle.look.specs.Buffers.{Shows};
 
 // The cells of the tables go to the front of the instance buffer.
 // Refused: nothing written; the first cell in each place.
-pub fn show(codes: &[u16], cells: u32, work: &[i32], instance: &mut [i16])
+pub(crate) fn show(codes: &[u16], cells: u32, work: &[i32], instance: &mut [i16])
     ensures { λ _. ⌜ Shows (now (codes .entry)) cells (now (work .entry)) (now (instance .entry)) (now (instance .exit)) ⌝ }
 {
     let mut j: u32 = 0;
@@ -25,7 +25,7 @@ pub fn show(codes: &[u16], cells: u32, work: &[i32], instance: &mut [i16])
 
 // "After an accepted look the work area is all zero".
 // Refused: 1 for 0; the first number left.
-pub fn clear(work: &mut [i32])
+pub(crate) fn clear(work: &mut [i32])
     ensures { λ _. ⌜ now (work .exit) ≡ zeros (now (work .entry)) ⌝ }
 {
     let mut i = 0;
@@ -37,7 +37,7 @@ pub fn clear(work: &mut [i32])
 
 // "end = min(start + count, N)": the sum is never taken where it would be too large.
 // Refused: the start; the start where N is due.
-pub fn end_of(start: u64, count: u64, n: u64) -> u64
+pub(crate) fn end_of(start: u64, count: u64, n: u64) -> u64
     ensures { λ r. ⌜ r ≡ min (start + count) n ⌝ }
 {
     if n < start {

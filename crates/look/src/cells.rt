@@ -34,7 +34,7 @@ fn add_table(table: u8, rows: u8, columns: u8, n: u32, codes: &mut [u16]) -> u32
 
 // The codes of all cells, and their number.
 // Refused: the first table left out; columns for rows.
-pub fn cells_of(shape: &[u8], tables: u8, codes: &mut [u16]) -> u32
+pub(crate) fn cells_of(shape: &[u8], tables: u8, codes: &mut [u16]) -> u32
     ensures { λ r. ⌜ CellsOf (now (shape .entry)) tables (now (codes .entry)) r (now (codes .exit)) ⌝ }
 {
     let mut all: u32 = 0;

@@ -73,7 +73,7 @@ fn take_row(shape: &[u8], ends: &[i32], table: u8, width: u8, q: u64) -> TakenRo
 // The cells become those of candidate k, row by row from the last row back: the last code tells the last row and its columns. Codes that are of
 // no file may end in less than a row, and it is not put.
 // Refused: those of candidate 0; rows of another relation.
-pub fn put_candidate(
+pub(crate) fn put_candidate(
     shape: &[u8],
     ends: &[i32],
     codes: &[u16],
@@ -106,7 +106,7 @@ pub fn put_candidate(
 
 // The cells go from candidate k to `next`: from the last cell back, up to where the leading digits are the same.
 // Refused: to candidate k; no cell where k and `next` differ.
-pub fn move_to(
+pub(crate) fn move_to(
     shape: &[u8],
     ends: &[i32],
     codes: &[u16],

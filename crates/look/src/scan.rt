@@ -69,7 +69,7 @@ fn scan(
 
 // The same, where nothing is set up yet; the flags of `shape` are set.
 // Refused: the cells of candidate 0 for any start; signs for 15 relations.
-pub fn search(
+pub(crate) fn search(
     bytes: &[u8],
     shape: &mut [u8],
     ends: &[i32],

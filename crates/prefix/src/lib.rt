@@ -78,7 +78,7 @@ pub fn between(frame: &[u8], at: usize, number: u8, lo: u8, hi: u8) -> Skip
 
 // Two bytes.
 // Refused: one byte; a second byte that is not there.
-pub fn two_bytes(frame: &[u8], at: usize) -> Skip
+fn two_bytes(frame: &[u8], at: usize) -> Skip
     ensures { λ r. ⌜ skipTold r ≡ skipped (now (frame .entry)) at twoBytes ⌝ }
 {
     if frame.len() <= at {
@@ -119,7 +119,7 @@ pub fn place(frame: &[u8], at: usize, items: Items, shape: &[u8]) -> Skip
 
 // A condition where one is due, else an expression: the token's range says which of the two it begins.
 // Refused: 07 is unknown; 10 is unknown.
-pub fn form(frame: &[u8], at: usize, items: Items, shape: &[u8], condition: bool) -> Skip
+fn form(frame: &[u8], at: usize, items: Items, shape: &[u8], condition: bool) -> Skip
     ensures { λ r. ⌜ skipTold r ≡ cond condition (skipped (now (frame .entry)) at (readC (openIn (now (shape .entry)) (relationsIn items)))) (skipped (now (frame .entry)) at (readE (openIn (now (shape .entry)) (relationsIn items)))) ⌝ }
 {
     if frame.len() <= at {

@@ -61,7 +61,7 @@ impl Range {
 
     // The range from lo to hi, if 32 bits hold both.
     // Refused: from -2^31 + 1; lo for hi.
-    pub fn checked(lo: i64, hi: i64) -> Ranged
+    fn checked(lo: i64, hi: i64) -> Ranged
         ensures { λ r. ⌜ rangedTold r ≡ fitted (rangeFrom lo hi) ⌝ }
     {
         if integer::between(lo, Range::LOW, Range::HIGH) {
@@ -129,7 +129,7 @@ impl Range {
 
     // The sums of at most as many values as the row bound says.
     // Refused: hi for lo; by 1.
-    pub fn scaled(self, bound: u32) -> Ranged
+    fn scaled(self, bound: u32) -> Ranged
         ensures { λ r. ⌜ rangedTold r ≡ fitted (scaledOf bound self) ⌝ }
     {
         let lo = integer::times(bound, integer::lesser(self.lo, 0));

@@ -51,14 +51,3 @@ pub fn put_short(shorts: &mut [i16], at: usize, n: i16)
     let number = n;
     shorts[at] = number;
 }
-
-// The same of the values of an answer.
-// Refused: always 0; always 1.
-pub fn put_long(longs: &mut [u64], at: usize, n: u64)
-    ensures { λ _. ⌜ now (longs .exit) ≡ set (now (longs .entry)) at n ⌝ }
-{
-    if longs.len() <= at {
-        return;
-    }
-    longs[at] = n;
-}

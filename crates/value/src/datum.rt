@@ -30,7 +30,7 @@ impl Datum {
 
     // The value of a cell of the instance buffer.
     // Refused: 0; 1.
-    pub fn from_instance(n: i16) -> Datum
+    fn from_instance(n: i16) -> Datum
         ensures { λ r. ⌜ valueOf r ≡ Value.number n ⌝ }
     {
         Datum {
@@ -93,7 +93,7 @@ impl Datum {
 
     // What the value counts for in an aggregate of that kind.
     // Refused: 0 for a member; sum for count.
-    pub fn weight(self, kind: u8) -> i32
+    pub(crate) fn weight(self, kind: u8) -> i32
         ensures { λ r. ⌜ r ≡ weightV (aggregateAt kind) (valueOf self) ⌝ }
     {
         if kind == 0 {

@@ -14,21 +14,21 @@ pub struct Bytes {
 }
 
 // Refused: b + b; a + a.
-pub fn add(a: i32, b: i32) -> i64
+fn add(a: i32, b: i32) -> i64
     ensures { λ r. ⌜ r ≡ a +ℤ b ⌝ }
 {
     (a as i64) + (b as i64)
 }
 
 // Refused: b - a; a - a.
-pub fn subtract(a: i32, b: i32) -> i64
+fn subtract(a: i32, b: i32) -> i64
     ensures { λ r. ⌜ r ≡ a -ℤ b ⌝ }
 {
     (a as i64) - (b as i64)
 }
 
 // Refused: a × a; b × b.
-pub fn multiply(a: i32, b: i32) -> i64
+fn multiply(a: i32, b: i32) -> i64
     ensures { λ r. ⌜ r ≡ a *ℤ b ⌝ }
 {
     (a as i64) * (b as i64)
@@ -89,7 +89,7 @@ pub fn widen16(x: i16) -> i32
 }
 
 // Refused: a == a; b == b.
-pub fn equal(a: i32, b: i32) -> bool
+pub(crate) fn equal(a: i32, b: i32) -> bool
     ensures { λ r. ⌜ r ≡ equalZ a b ⌝ }
 {
     a == b
@@ -162,7 +162,7 @@ pub fn compare(kind: u8, a: i32, b: i32) -> bool
 
 // What two numbers come to in an aggregate: kinds 0 and 1 are the sum, 2 the lesser, any other the greater.
 // Refused: the lesser of a and a; a + a.
-pub fn combined(kind: u8, a: i32, b: i32) -> i32
+pub(crate) fn combined(kind: u8, a: i32, b: i32) -> i32
     ensures { λ r. ⌜ r ≡ narrow32 (combine (aggregateAt kind) a b) ⌝ }
 {
     match kind {
@@ -201,7 +201,7 @@ fn magnitude(x: i32) -> u64
 
 // How far apart two numbers lie.
 // Refused: that of b and b; of a and a.
-pub fn distance(a: i16, b: i16) -> u32
+pub(crate) fn distance(a: i16, b: i16) -> u32
     ensures { λ r. ⌜ (r ≡ natAbs (b -ℤ a)) × (r ≤ 65535) ⌝ }
 {
     magnitude(subtract16(b, a)) as u32
