@@ -27,7 +27,7 @@ pub fn some_row(shape: &[u8], tables: u8) -> bool
 }
 
 // The tables' numbers of rows, each at its relation's place.
-// Refused: the first table's number for each; an entry behind the tables.
+// Refused: the first table's number for each; the number of tables for each.
 pub fn count_tables(shape: &[u8], tables: u8, counts: &mut [u8])
     ensures { λ _. ⌜ TablesCounted (now (shape .entry)) tables (now (counts .entry)) (now (counts .exit)) ⌝ }
 {
