@@ -114,29 +114,29 @@ module _ (work : List ℤ) (t i j w mask : ℕ) where
 -- ---- a row and those before it
 
 -- row j differs from the first i rows
-pub record Apart (work : List ℤ) (t i j w mask : ℕ) : Type 0 where
-  pub apart : (key : List Bool) → length key ≡ w → mask ≡ maskOf key → all (λ μ. differ key μ (rowIn work t w j)) (rowsIn work t w i) ≡ true
+pub record EarlierDiffer (work : List ℤ) (t i j w mask : ℕ) : Type 0 where
+  pub differ-all : (key : List Bool) → length key ≡ w → mask ≡ maskOf key → all (λ μ. differ key μ (rowIn work t w j)) (rowsIn work t w i) ≡ true
 
 module _ (work : List ℤ) (t j w mask : ℕ) where
-  pub apart-none : Apart work t 0 j w mask
-  apart-none = record { apart = λ key l m. all-none work t w (λ μ. differ key μ (rowIn work t w j)) }
+  pub earlier-none : EarlierDiffer work t 0 j w mask
+  earlier-none = record { differ-all = λ key l m. all-none work t w (λ μ. differ key μ (rowIn work t w j)) }
 
-  pub apart-more : {i : ℕ} {r : Bool} → Apart work t i j w mask → Differs work t i j w mask r → r ≡ true → Apart work t (i + 1) j w mask
-  apart-more {i} a d e = record {
-    apart = λ key l m.
-        all-step work t w (λ μ. differ key μ (rowIn work t w j)) i (a .apart key l m) (sym (d .differs key l m) ∙ e);
+  pub earlier-more : {i : ℕ} {r : Bool} → EarlierDiffer work t i j w mask → Differs work t i j w mask r → r ≡ true → EarlierDiffer work t (i + 1) j w mask
+  earlier-more {i} a d e = record {
+    differ-all = λ key l m.
+        all-step work t w (λ μ. differ key μ (rowIn work t w j)) i (a .differ-all key l m) (sym (d .differs key l m) ∙ e);
   }
 
-  pub apart-stops : {i : ℕ} {r : Bool} → i < j → Differs work t i j w mask r → r ≡ false → DiffersFromEarlier work t j w mask false
-  apart-stops {i} h d e = record {
+  pub earlier-stops : {i : ℕ} {r : Bool} → i < j → Differs work t i j w mask r → r ≡ false → DiffersFromEarlier work t j w mask false
+  earlier-stops {i} h d e = record {
     differs = λ key l m.
         sym (all-stops work t w (λ μ. differ key μ (rowIn work t w j)) j i h (sym (d .differs key l m) ∙ e));
   }
 
-  pub apart-whole : {i : ℕ} → i ≡ j → Apart work t i j w mask → DiffersFromEarlier work t j w mask true
-  apart-whole {i} e a = record {
+  pub earlier-whole : {i : ℕ} → i ≡ j → EarlierDiffer work t i j w mask → DiffersFromEarlier work t j w mask true
+  earlier-whole {i} e a = record {
     differs = λ key l m.
-        sym (ap (λ k. all (λ μ. differ key μ (rowIn work t w j)) (rowsIn work t w k)) (sym e) ∙ a .apart key l m);
+        sym (ap (λ k. all (λ μ. differ key μ (rowIn work t w j)) (rowsIn work t w k)) (sym e) ∙ a .differ-all key l m);
   }
 
 -- ---- the rows of a table

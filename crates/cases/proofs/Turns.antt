@@ -34,6 +34,7 @@ use Rattle.catalog.specs.FileIn.{Source, FileIn}
 use Rattle.catalog.proofs.FileLaws.{width-is}
 use Rattle.store.specs.Layout.{area}
 use Rattle.store.specs.Rows.{rowsIn}
+use Rattle.views.proofs.Copying.{apart-rows}
 use Rattle.cases.specs.Needs.{Needed, Asked, Asks, Covers}
 use Rattle.cases.specs.Relations.{columnsOf, OperandsIn, SignsIn}
 use Rattle.cases.specs.Judgement.{Memory, memoryFrom, SignNoted, RowsNoted, Known}
@@ -134,7 +135,7 @@ module _ {F : File} {g : Goal} {d : Database} {source : Source} {ends : List ℤ
         ∙ R .noted f (omega (arith, small, counts-size)) .rows q (own-frame q e) s widths ∙ sym (rows-view F d v q (in-d v e))
 
     rows-kept : (i w k : ℕ) → (i ≡ v → ⊥) → rowsIn work₂ i w k ≡ rowsIn (memory .work) i w k
-    rows-kept i w k h = R .apart .others i w k h ∙ S .apart .others i w k h
+    rows-kept i w k h = apart-rows (R .apart) i w k h ∙ apart-rows (S .apart) i w k h
 
     pub turn-known : Known F d shape (memoryFrom counts′ signs′ work₂) (suc v)
     turn-known = record {

@@ -10,7 +10,7 @@ use Rattle.meaning.specs.Syntax.{Row}
 use Rattle.store.specs.Layout.{columnLimit, cellIn}
 use Rattle.store.specs.Rows.{listed, rowIn, rowsIn, putRow, rowOf, withValue}
 use Rattle.store.specs.declared.Row.{Row as Values}
-use Rattle.store.proofs.RowLaws.{rows-none, rows-more, row-of-rows, row-of-none, row-of-length, with-next, put-length, put-other, put-grows, only-same, only-more, only-put-row}
+use Rattle.store.proofs.RowLaws.{rows-none, rows-more, row-of-rows, row-of-none, row-of-length, with-next, put-length, put-grows, only-same, only-more, only-put-row, only-rows}
 use Rattle.views.specs.Copies.{Apart, Fits, Copied, Union}
 
 -- ---- one row
@@ -32,13 +32,17 @@ row-whole row work r w c i h k p = let e : w ≡ c = omega arith in rw e p
 -- ---- several rows
 
 pub apart-same : (r : ℕ) (work : List ℤ) → Apart r work work
-apart-same r work = record { only = only-same work; size = refl; others = λ i w n h. refl }
+apart-same r work = record { only = only-same work; size = refl }
 
 pub apart-more : {r : ℕ} {a b c : List ℤ} → Apart r a b → Apart r b c → Apart r a c
-apart-more p q = record { only = only-more (p .only) (q .only); size = q .size ∙ p .size; others = λ i w n h. q .others i w n h ∙ p .others i w n h }
+apart-more p q = record { only = only-more (p .only) (q .only); size = q .size ∙ p .size }
 
 pub apart-put : (work : List ℤ) (r i w : ℕ) (row : Row) → Apart r work (putRow work r i w row)
-apart-put work r i w row = record { only = only-put-row work r i w row refl; size = put-length work r i w row; others = λ j v n h. put-other work r i w row j v n h }
+apart-put work r i w row = record { only = only-put-row work r i w row refl; size = put-length work r i w row }
+
+-- the rows of every other relation stay
+pub apart-rows : {r : ℕ} {work work′ : List ℤ} → Apart r work work′ → (i w n : ℕ) → (i ≡ r → ⊥) → rowsIn work′ i w n ≡ rowsIn work i w n
+apart-rows a = only-rows (a .only)
 
 pub copied-none : (work : List ℤ) (source to at w : ℕ) → Copied work source 0 to at w work
 copied-none work source to at w = record {
@@ -50,7 +54,7 @@ copied-none work source to at w = record {
 -- the row that is read is still the source's
 pub row-kept : (work work′ : List ℤ) (source to w i : ℕ) → Apart to work work′ → (source ≡ to → ⊥) → rowIn work′ source w i ≡ rowIn work source w i
 row-kept work work′ source to w i a d =
-    sym (row-of-rows work′ source w (suc i) i (omega arith)) ∙ ap (λ (l : List Row). getD l i []) (a .others source w (suc i) d) ∙ row-of-rows work source w (suc i) i (omega arith)
+    sym (row-of-rows work′ source w (suc i) i (omega arith)) ∙ ap (λ (l : List Row). getD l i []) (apart-rows a source w (suc i) d) ∙ row-of-rows work source w (suc i) i (omega arith)
 
 pub copied-more : (work work′ : List ℤ) (source i to at w : ℕ) (row : Values) (place : ℕ) → Copied work source i to at w work′ → place ≡ at + i
     → (w ≤ columnLimit → rowOf row w ≡ rowIn work′ source w i) → Copied work source (i + 1) to at w (putRow work′ to place w (rowOf row w))
@@ -85,5 +89,5 @@ joined work mid work′ left m right n to w a b = record {
       let second : Fits to (m + n) w mid = record { relation = f .relation; rows = f .rows; columns = f .columns; whole = omega (arith, f .whole, a .apart .size) } in
       let z : m ≡ 0 + m = omega arith in
       b .rows q second
-      ∙ ap₂ (λ (x y : List Row). x ++ y) (ap (rowsIn mid to w) z ∙ a .rows p first ∙ ap (λ (l : List Row). l ++ rowsIn work left w m) (rows-none work to w)) (a .apart .others right w n q);
+      ∙ ap₂ (λ (x y : List Row). x ++ y) (ap (rowsIn mid to w) z ∙ a .rows p first ∙ ap (λ (l : List Row). l ++ rowsIn work left w m) (rows-none work to w)) (apart-rows (a .apart) right w n q);
 }

@@ -22,7 +22,7 @@ use Rattle.store.specs.declared.Row.{Row as Values}
 use Rattle.store.proofs.Listed.{length-listed}
 use Rattle.store.proofs.RowLaws.{rows-none, rows-more, row-of-length, put-grows}
 use Rattle.views.specs.Copies.{Fits, Appended, Intersection}
-use Rattle.views.proofs.Copying.{apart-same, apart-more, apart-put, row-kept}
+use Rattle.views.proofs.Copying.{apart-same, apart-more, apart-put, apart-rows, row-kept}
 
 -- ---- rows that are the same
 
@@ -110,8 +110,8 @@ module _ {work now : List ℤ} {left i right n to w kept before there : ℕ} (s 
   step-common p q =
       let k : i + 1 ≡ suc i = omega arith in
       let row = row-kept work now left to w i (s .apart) p in
-      let b : before ≡ count rowTest (rowIn work left w i) (rowsIn work left w i) = x ∙ ap₂ (count rowTest) row (s .apart .others left w i p) in
-      let t : there ≡ count rowTest (rowIn work left w i) (rowsIn work right w n) = y ∙ ap₂ (count rowTest) row (s .apart .others right w n q) in
+      let b : before ≡ count rowTest (rowIn work left w i) (rowsIn work left w i) = x ∙ ap₂ (count rowTest) row (apart-rows (s .apart) left w i p) in
+      let t : there ≡ count rowTest (rowIn work left w i) (rowsIn work right w n) = y ∙ ap₂ (count rowTest) row (apart-rows (s .apart) right w n q) in
       ap (λ l. common rowTest l (rowsIn work right w n)) (ap (rowsIn work left w) k ∙ rows-more work left w i)
       ∙ common-snoc rowTest (rowsIn work left w i) (rowIn work left w i) (rowsIn work right w n)
       ∙ ap₂ (λ u v. common rowTest (rowsIn work left w i) (rowsIn work right w n) ++ cond (ltb u v) (rowIn work left w i ∷ []) []) (sym b) (sym t)

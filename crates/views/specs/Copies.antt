@@ -15,7 +15,6 @@ use Rattle.store.specs.declared.Row.{Row as Values}
 pub record Apart (r : ℕ) (work work′ : List ℤ) : Type 0 where
   pub only : OnlyCells (λ i. i ≡ r) work work′
   pub size : length work′ ≡ length work
-  pub others : (i w n : ℕ) → (i ≡ r → ⊥) → rowsIn work′ i w n ≡ rowsIn work i w n
 
 -- the work area has room for n rows of width w of relation r
 pub record Fits (r n w : ℕ) (work : List ℤ) : Type 0 where
