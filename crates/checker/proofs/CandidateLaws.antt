@@ -76,6 +76,7 @@ module _ (shape : List ℕ) (ends : List ℤ) where
 
   pub counted : (tables r : ℕ) → r ≡ cappedProduct 1 (cellsFrom shape ends 0 tables) → CandidatesOf shape ends tables r
   counted tables r e = record {
+    here = e;
     counted = λ ts T n.
         let c : cellsFrom shape ends 0 tables ≡ cellColumns ts = rw n (cells-back 0 ts (λ i l. let z : 0 + i ≡ i = omega arith in ap (tableCells shape ends) z ∙ table-back T i l)) in
         e ∙ ap (cappedProduct 1) c ∙ capped-product 1 (cellColumns ts) (omega arith) ∙ ap (λ k. min k tooMany) (omega arith);

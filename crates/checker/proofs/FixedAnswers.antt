@@ -28,6 +28,7 @@ module _ (frame : List ℕ) where
         → h ≡ keyHead frame tables → b ≡ keyBody frame shape child parent n → r ≡ first h b → KeyFault frame shape tables r
     unfolding keyHead keyPairs keyBody
     key-answer shape i j e p q s = record {
+      here = s ∙ ap₂ first p (q ∙ rw (i, j, e));
       at = λ d ends known fit t.
           s ∙ ap₂ first p q ∙ first-three _ _ _ _ ∙ ap (first _) (ap (first _) (ap (first _) (sym (first-assoc _ _ _)))) ∙ rw (i, j, e, t) (sym (key-law known frame fit));
     }
@@ -36,12 +37,12 @@ module _ (frame : List ℕ) where
       pub set-answer : (shape : List ℕ) (op : SetOperation) {i j b s r : ℕ} → i ≡ getD frame 1 0 → j ≡ getD frame 2 0
           → b ≡ setBytes frame tables count → s ≡ setRules op shape i j → r ≡ first b s → SetFault frame shape tables count op r
       unfolding setBytes
-      set-answer shape op i j p q e = record { at = λ d ends known t n. e ∙ ap₂ first p q ∙ first-three _ _ _ _ ∙ rw (i, j, t, n) (sym (set-law known frame op)) }
+      set-answer shape op i j p q e = record { here = e ∙ ap₂ first p (q ∙ ap₂ (setRules op shape) i j); at = λ d ends known t n. e ∙ ap₂ first p q ∙ first-three _ _ _ _ ∙ rw (i, j, t, n) (sym (set-law known frame op)) }
 
       pub goal-answer : {r : ℕ} → r ≡ first (faultAt frame 1 (byteIf 6 (fromUnder tables count)))
           (first (faultAt frame 2 (byteIf 5 (within 0 1))) (faultAt frame 3 (ending {A = ℕ} 3)))
           → GoalFault frame tables count r
-      goal-answer e = record { at = λ d t k. e ∙ rw (t, k) (sym (goal-law d frame)) }
+      goal-answer e = record { here = e; at = λ d t k. e ∙ rw (t, k) (sym (goal-law d frame)) }
 
 -- ---- the rules on a set view, by its row bound that is at most 255
 

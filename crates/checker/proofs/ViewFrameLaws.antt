@@ -90,6 +90,9 @@ module _ (frame shape : List ℕ) (count : ℕ) {items : Items} {n v : ℕ} (e :
   pub bytes-fault : (grouped : Bool) {a b r : ℕ} → a ≡ faultAt frame 1 (fromsUnder count) → b ≡ faultAt frame (v + 2) (behindFroms grouped cols)
       → r ≡ first a b → BytesFault grouped frame shape count r
   bytes-fault grouped p q z = record {
+    here =
+        z ∙ ap₂ first p
+        (q ∙ ap₂ (λ (i : ℕ) (x : Items). faultAt frame (i + 2) (behindFroms grouped (widthsIn shape (relationsIn x)))) (g ∙ f) e);
     at = λ d ends c y.
         z ∙ ap₂ first p (q ∙ ap (λ i. faultAt frame (i + 2) (behindFroms grouped cols)) (g ∙ f)) ∙ sym (bytes-law frame shape count opened grouped d ends c y);
   }

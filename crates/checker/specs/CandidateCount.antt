@@ -37,5 +37,7 @@ unfoldable pub cellsFrom : List ℕ → List ℤ → ℕ → ℕ → List Column
 cellsFrom shape ends t zero = []
 cellsFrom shape ends t (suc n) = tableCells shape ends t ++ cellsFrom shape ends (t + 1) n
 
+-- on any arrays; and for tables that the arrays stand for
 pub record CandidatesOf (shape : List ℕ) (ends : List ℤ) (tables r : ℕ) : Type 0 where
+  pub here : r ≡ cappedProduct 1 (cellsFrom shape ends 0 tables)
   pub counted : (ts : List Table) → TablesKnown ts shape ends → tables ≡ length ts → r ≡ min (sizesProduct (cellColumns ts)) tooMany

@@ -83,7 +83,7 @@ setBytes frame tables count =
 unfoldable pub setRules : SetOperation → List ℕ → ℕ → ℕ → ℕ
 setRules op shape i j = cond (eqb (widthAt shape i) (widthAt shape j)) (cond (leb (setBound op (boundAt shape i) (boundAt shape j)) 64) 0 8) 6
 
--- ---- what the code promises
+-- ---- what the code promises: `here` on any bytes and arrays, `at` for a draft that the arrays stand for
 
 pub record TableFault (frame : List ℕ) (r : ℕ) : Type 0 where
   pub at : (d : Draft) → r ≡ bodyFault d tableFrame frame
@@ -93,11 +93,14 @@ pub record KeysFit (d : Draft) : Type 0 where
   pub fits : (i : ℕ) → i < length (d .tables) → length (getD (d .tables) i noTable .key) ≡ length (getD (d .tables) i noTable .columns)
 
 pub record KeyFault (frame shape : List ℕ) (tables r : ℕ) : Type 0 where
+  pub here : r ≡ first (keyHead frame tables) (keyBody frame shape (getD frame 1 0) (getD frame 2 0) (getD frame 3 0))
   pub at : (d : Draft) (ends : List ℤ) → Catalogued d shape ends → KeysFit d → tables ≡ length (d .tables) → r ≡ bodyFault d (keyFrame d) frame
 
 pub record SetFault (frame shape : List ℕ) (tables count : ℕ) (op : SetOperation) (r : ℕ) : Type 0 where
+  pub here : r ≡ first (setBytes frame tables count) (setRules op shape (getD frame 1 0) (getD frame 2 0))
   pub at : (d : Draft) (ends : List ℤ) → Catalogued d shape ends → tables ≡ length (d .tables) → count ≡ relationCount d
       → r ≡ bodyFault d (setFrame d op) frame
 
 pub record GoalFault (frame : List ℕ) (tables count r : ℕ) : Type 0 where
+  pub here : r ≡ first (faultAt frame 1 (byteIf 6 (fromUnder tables count))) (first (faultAt frame 2 (byteIf 5 (within 0 1))) (faultAt frame 3 (ending {A = ℕ} 3)))
   pub at : (d : Draft) → tables ≡ length (d .tables) → count ≡ relationCount d → r ≡ bodyFault d (goalFrame d) frame

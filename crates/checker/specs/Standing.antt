@@ -63,7 +63,8 @@ pub record DraftIn (d : Draft) (s : Progress) (shape : List ℕ) (ends : List �
   pub catalogued : Catalogued d shape ends
   pub fits : KeysFit d
 
--- what the frame f of kind k does when its turn has come
+-- what the frame f of kind k does when its turn has come. With a fault the state and the arrays are open, and so is all where the arrays stand
+-- for no draft: `walk` begins with those of the empty draft, ends at the first fault, and a refused plan has neither state nor arrays.
 pub record Turned (k : ℕ) (f : List ℕ) (s : Progress) (shape : List ℕ) (ends : List ℤ) (shape′ : List ℕ) (ends′ : List ℤ) (r : Step) : Type 0 where
   pub fault : (d : Draft) → DraftIn d s shape ends → inOrder d k ≡ true → hasRoom d k ≡ true → r .fault ≡ bodyFault d (frame d k) f
   pub next : (d : Draft) (i : Item) → DraftIn d s shape ends → inOrder d k ≡ true → hasRoom d k ≡ true → frame d k (drop 1 f) ≡ Read.ok i []

@@ -2,13 +2,16 @@
 use mathlib.Core.Path.{_≡_}
 use mathlib.Core.Bool.{Bool, true, false}
 use mathlib.Core.List.{List}
-use Prim.Native.Nat.{ℕ}
+use Prim.Native.Nat.{ℕ, _+_}
 use lib.IntN.{ℤ}
+use lib.ListN.{getD}
 use Rattle.meaning.specs.Syntax.{Expr}
 use Rattle.language.specs.Reading.{Reader, _>>=_, byteIf, openItems, readE, readC}
 use Rattle.language.specs.Draft.{Draft, Item, relationCount}
 use Rattle.language.specs.Frames.{repeated, field, ending, placeField, basicFrame, groupedFrame}
-use Rattle.checker.specs.Faults.{faultAt, under}
+use Rattle.catalog.specs.Frames.{fromsIn}
+use Rattle.catalog.specs.Items.{itemsOf, relationsIn, widthsIn}
+use Rattle.checker.specs.Faults.{faultAt, first, under}
 use Rattle.checker.specs.Catalogued.{Catalogued}
 
 -- ---- the parts of the two frames, what they read aside
@@ -55,6 +58,7 @@ abbrev pub ownFrame : Bool → Draft → Reader Item
 ownFrame true d = groupedFrame d
 ownFrame false d = basicFrame d
 
--- the first fault of a frame's bytes, whatever the relations before it are
+-- the first fault of a frame's bytes, whatever the relations before it are: on any bytes and arrays, and for a draft that the arrays stand for
 pub record BytesFault (grouped : Bool) (frame shape : List ℕ) (count r : ℕ) : Type 0 where
+  pub here : r ≡ first (faultAt frame 1 (fromsUnder count)) (faultAt frame (getD frame 1 0 + 2) (behindFroms grouped (widthsIn shape (relationsIn (itemsOf (fromsIn frame))))))
   pub at : (d : Draft) (ends : List ℤ) → Catalogued d shape ends → count ≡ relationCount d → r ≡ faultAt frame 1 (ownFrame grouped d)
