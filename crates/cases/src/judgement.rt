@@ -33,7 +33,8 @@ fn note_rows(frame: &[u8], shape: &[u8], counts: &mut [u8], work: &mut [i32], v:
 }
 
 // The views whose rows are needed or whose sign is asked, from the first to the last. `counts` has the number of rows of each relation,
-// at first of the tables; `signs` has 1 for a negative view, else 0.
+// at first of the tables; `signs` has 1 for a negative view, else 0. Which rows and signs there are is said of a file in memory and a database
+// in the work area; which numbers may change, of every input.
 // Refused: the first frame for each; rows behind the last relation.
 pub fn evaluate(
     bytes: &[u8],
@@ -67,7 +68,8 @@ pub fn wanted(goal: Goal, counts: &[u8], signs: &[u8]) -> bool
     0 < slice::byte_at(counts, goal.view as usize)
 }
 
-// Whether the database in the work area is a case of the goal.
+// Whether the database in the work area is a case of the goal: the answer is said of a file in memory and a database of it, as `evaluate`
+// says its rows.
 // Refused: an empty database; a database that is not valid.
 pub fn is_case(
     bytes: &[u8],

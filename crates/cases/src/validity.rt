@@ -153,7 +153,8 @@ fn foreign_keys_hold(bytes: &[u8], at: usize, keys: u8, counts: &[u8], work: &[i
     true
 }
 
-// Whether each key and each foreign key holds.
+// Whether each key and each foreign key holds. Of arrays and rows that are of no file and no database of it the answer is open: a plan is of
+// a file, and what a search or a caller puts in the work area is a database.
 // Refused: primary keys alone; foreign keys alone.
 pub fn is_valid(bytes: &[u8], shape: &[u8], o: Outline, counts: &[u8], work: &[i32]) -> bool
     ensures { λ r. ⌜ IsValid (sourceFrom (now (bytes .entry)) (now (shape .entry)) o) (now (counts .entry)) (now (work .entry)) r ⌝ }
