@@ -41,7 +41,7 @@ fn every_relation(
 // The tables of the database stand in the work area, each row in its relation's stretch. For buffers that are too short and for a text that
 // is refused, the number of the refusal in the upper 16 bits and the line in the lower; else 1 for a case and 0 for none. Then the work area
 // has the rows of every relation, and `counts` their numbers.
-// Refused: 2 for a case; 1 for none; 9,215 numbers as enough.
+// Refused: 2 for a case; 1 for none; 9,216 numbers as too few.
 #[no_mangle]
 pub extern "C" fn sakthveim_evaluate(text: &[u8], counts: &mut [u8], work: &mut [i32]) -> u32
     ensures { λ r. ⌜ Tried (fileOf (now (text .entry))) (now (counts .entry)) (now (work .entry)) r (now (counts .exit)) (now (work .exit)) ⌝ }
