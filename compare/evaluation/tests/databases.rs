@@ -226,7 +226,8 @@ fn damaged_texts() {
     let mut tally = Tally::default();
     for seed in 0..2_000 {
         let text = reference::write(&gen::file(1_000_000 + seed));
-        let lengths = (8 + rng.below(16), WORK - 50 + rng.below(100));
+        // one text in five meets short buffers
+        let lengths = (15 + rng.below(8), WORK - 10 + rng.below(100));
         let short = lengths.0 < 16 || lengths.1 < WORK;
         let counts = random_counts(&mut rng, lengths.0);
         let work = random_work(&mut rng, lengths.1);
@@ -249,7 +250,9 @@ fn damaged_texts() {
             }
         }
     }
-    tally.finish(&[1, 2, 3, 4, 5, 6, 7, 8, 9, 10].map(|number| format!("refusal {number}")));
+    let refusals = [1, 2, 3, 4, 5, 6, 7, 8, 9, 10].map(|number| format!("refusal {number}"));
+    tally.finish(&refusals);
+    tally.finish(&["short buffers"]);
 }
 
 /// Short buffers are refused, and stay as they are.
