@@ -226,8 +226,11 @@ fn damaged_texts() {
     let mut tally = Tally::default();
     for seed in 0..2_000 {
         let text = reference::write(&gen::file(1_000_000 + seed));
-        // one text in five meets short buffers
-        let lengths = (15 + rng.below(8), WORK - 10 + rng.below(100));
+        // one text in five meets buffers of any length, mostly short
+        let lengths = match seed % 5 {
+            0 => (rng.below(20), rng.below(WORK + 100)),
+            _ => (16 + rng.below(8), WORK + rng.below(100)),
+        };
         let short = lengths.0 < 16 || lengths.1 < WORK;
         let counts = random_counts(&mut rng, lengths.0);
         let work = random_work(&mut rng, lengths.1);

@@ -1,2 +1,2 @@
--- What a reader must believe of the bounds of expressions on frame bytes.
+-- What the walk over expressions and conditions on frame bytes promises.
 pub mod Walk

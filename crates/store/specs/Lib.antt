@@ -1,4 +1,4 @@
--- What a reader must believe of the work area.
+-- How rows lie in the work area, and what its functions promise.
 pub mod Strides
 pub mod Layout
 pub mod Rows

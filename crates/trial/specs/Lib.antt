@@ -1,2 +1,2 @@
--- What a reader must believe of a trial.
+-- What the evaluation of one database promises.
 pub mod Tried
