@@ -96,8 +96,8 @@ module _ (ends : List ℤ) (r c : ℕ) (x : Range) where
   put-next h = rw (add-one c) (ranges-snoc (putRange ends r c x) (16 * r) c ∙ ap₂ (λ rs y. rs ++ (y ∷ [])) put-keeps (put-there h))
 
   -- and so are the other relations
-  pub put-outside : c < 8 → Outside r ends (putRange ends r c x)
-  put-outside h = record {
+  pub put-outside : (n : ℕ) → c < n → Outside r n ends (putRange ends r c x)
+  put-outside n h = record {
     size = put-length;
     before = λ k l. put-other k (λ e. omega arith) (λ e. omega arith);
     behind = λ k l. put-other k (λ e. omega arith) (λ e. omega arith);
@@ -105,10 +105,14 @@ module _ (ends : List ℤ) (r c : ℕ) (x : Range) where
 
 -- ---- parts outside a relation's
 
-pub outside-same : (r : ℕ) (ends : List ℤ) → Outside r ends ends
-outside-same r ends = record { size = refl; before = λ k h. refl; behind = λ k h. refl }
+pub outside-same : (r n : ℕ) (ends : List ℤ) → Outside r n ends ends
+outside-same r n ends = record { size = refl; before = λ k h. refl; behind = λ k h. refl }
 
-pub outside-more : {r : ℕ} {a b c : List ℤ} → Outside r a b → Outside r b c → Outside r a c
+-- what leaves more unchanged
+pub outside-wider : {r m n : ℕ} {a b : List ℤ} → m ≤ n → Outside r m a b → Outside r n a b
+outside-wider h o = record { size = o .size; before = o .before; behind = λ k l. o .behind k (omega arith) }
+
+pub outside-more : {r n : ℕ} {a b c : List ℤ} → Outside r n a b → Outside r n b c → Outside r n a c
 outside-more f g = record {
   size = g .size ∙ f .size;
   before = λ k h. g .before k h ∙ f .before k h;
@@ -116,7 +120,7 @@ outside-more f g = record {
 }
 
 -- another relation's ranges are as they were
-pub outside-ranges : {r : ℕ} {ends ends′ : List ℤ} → Outside r ends ends′ → (i n : ℕ) → (i ≡ r → ⊥) → n ≤ 8
+pub outside-ranges : {r : ℕ} {ends ends′ : List ℤ} → Outside r 8 ends ends′ → (i n : ℕ) → (i ≡ r → ⊥) → n ≤ 8
     → rangesFrom ends′ (16 * i) n ≡ rangesFrom ends (16 * i) n
 outside-ranges {r} {ends} {ends′} o i n h w =
     ranges-same ends ends′ (16 * i) n (λ k a b. by-lt i r (λ _ l. o .before k (omega arith)) (λ _ l. o .behind k (beyond k a l)))
@@ -127,10 +131,10 @@ outside-ranges {r} {ends} {ends′} o i n h w =
 -- ---- the first columns stored in turn
 
 module _ (f : ℕ → Range) (ends : List ℤ) (r : ℕ) where
-  pub puts-outside : (n : ℕ) → n ≤ 8 → Outside r ends (putRanges f ends r n)
+  pub puts-outside : (n m : ℕ) → n ≤ m → Outside r m ends (putRanges f ends r n)
   unfolding putRanges
-  puts-outside zero h = outside-same r ends
-  puts-outside (suc n) h = outside-more (puts-outside n (omega arith)) (put-outside (putRanges f ends r n) r n (f n) (omega arith))
+  puts-outside zero m h = outside-same r m ends
+  puts-outside (suc n) m h = outside-more (puts-outside n m (omega arith)) (put-outside (putRanges f ends r n) r n (f n) m (omega arith))
 
   pub puts-column : r < 16 → length ends ≡ 256 → (n : ℕ) → n ≤ 8 → (c : ℕ) → c < n
       → rangeFrom (getD (putRanges f ends r n) (16 * r + 2 * c) (pos 0)) (getD (putRanges f ends r n) (16 * r + 2 * c + 1) (pos 0)) ≡ f c
@@ -142,7 +146,7 @@ module _ (f : ℕ → Range) (ends : List ℤ) (r : ℕ) where
       (λ _ k. ap₂ rangeFrom (put-other old r n (f n) (16 * r + 2 * c) (λ e. omega arith) (λ e. omega arith))
       (put-other old r n (f n) (16 * r + 2 * c + 1) (λ e. omega arith) (λ e. omega arith))
       ∙ puts-column s z n (omega arith) c k)
-      (λ _ k. let e : c ≡ n = omega arith in rw e (put-there old r n (f n) (omega (arith, puts-outside n (omega arith) .size))))
+      (λ _ k. let e : c ≡ n = omega arith in rw e (put-there old r n (f n) (omega (arith, puts-outside n 8 (omega arith) .size))))
 
   -- the ranges of the relation are what was stored
   pub puts-ranges : r < 16 → length ends ≡ 256 → (n : ℕ) → n ≤ 8 → (rs : List Range) → length rs ≡ n → ((c : ℕ) → c < n → f c ≡ getD rs c none)

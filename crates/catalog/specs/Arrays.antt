@@ -97,8 +97,8 @@ unfoldable pub putRanges : (ℕ → Range) → List ℤ → ℕ → ℕ → List
 putRanges f ends r zero = ends
 putRanges f ends r (suc n) = putRange (putRanges f ends r n) r n (f n)
 
--- the part of ends that is not relation r's is as it was: what a function promises that stores a view's ranges
-pub record Outside (r : ℕ) (ends ends′ : List ℤ) : Type 0 where
+-- lo and hi of the first n columns of relation r may change, and no other number
+pub record Outside (r n : ℕ) (ends ends′ : List ℤ) : Type 0 where
   pub size : length ends′ ≡ length ends
   pub before : (k : ℕ) → k < 16 * r → getD ends′ k (pos 0) ≡ getD ends k (pos 0)
-  pub behind : (k : ℕ) → 16 * r + 16 ≤ k → getD ends′ k (pos 0) ≡ getD ends k (pos 0)
+  pub behind : (k : ℕ) → 16 * r + 2 * n ≤ k → getD ends′ k (pos 0) ≡ getD ends k (pos 0)

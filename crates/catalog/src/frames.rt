@@ -128,7 +128,7 @@ pub fn goal_of(frame: &[u8]) -> Goal
 
 // The from list of a basic or an aggregate view's frame.
 // Refused: its length with it; without its first item.
-pub fn from_list(frame: &[u8]) -> &[u8]
+pub(crate) fn from_list(frame: &[u8]) -> &[u8]
     ensures { λ r. ⌜ now r ≡ fromsIn (now (frame .entry)) ⌝ }
 {
     part(frame, 2, byte_at(frame, 1))

@@ -38,7 +38,7 @@ table-schemas d t e = rw e (map-append tableSchema (d .tables) (t ∷ []))
 -- what is stored of relation r: the four bytes, and ranges that do not touch the other relations'
 pub record Stored (r kind width bound mask : ℕ) (shape : List ℕ) (ends : List ℤ) (shape′ : List ℕ) (ends′ : List ℤ) : Type 0 where
   pub four : shape′ ≡ putShape shape r kind width bound mask
-  pub outside : Outside r ends ends′
+  pub outside : Outside r 8 ends ends′
   pub place : r < 16
   pub narrow : width ≤ 8
   pub shape-size : length shape ≡ 128
@@ -106,7 +106,7 @@ module _ {r kind width bound mask : ℕ} {shape : List ℕ} {ends : List ℤ} {s
 
 -- the arrays stand for the draft with the view, where its ranges stand in ends and the rest of ends is as it was
 pub view-entered : (d : Draft) (q : View) (r kind width bound mask : ℕ) (shape : List ℕ) (ends : List ℤ) (shape′ : List ℕ) (ends′ : List ℤ)
-    → Catalogued d shape ends → r ≡ relationCount d → r < 16 → width ≤ 8 → shape′ ≡ putShape shape r kind width bound mask → Outside r ends ends′
+    → Catalogued d shape ends → r ≡ relationCount d → r < 16 → width ≤ 8 → shape′ ≡ putShape shape r kind width bound mask → Outside r 8 ends ends′
     → viewSchema (schemasOf d) q ≡ record { bound = bound; ranges = rangesFrom ends′ (16 * r) width }
     → Catalogued (added d (Item.view q)) shape′ ends′
 view-entered d q r kind width bound mask shape ends shape′ ends′ c e l w p o v =
@@ -125,7 +125,7 @@ view-entered d q r kind width bound mask shape ends shape′ ends′ c e l w p o
 
 pub table-entered : (d : Draft) (t : Table) (r kind width bound mask : ℕ) (shape : List ℕ) (ends : List ℤ) (shape′ : List ℕ) (ends′ : List ℤ)
     → Catalogued d shape ends → r ≡ length (d .tables) → r < 16 → d .views ≡ [] → width ≤ 8 → shape′ ≡ putShape shape r kind width bound mask
-    → Outside r ends ends′ → tableSchema t ≡ record { bound = bound; ranges = rangesFrom ends′ (16 * r) width } → maskOf (t .key) ≡ mask
+    → Outside r 8 ends ends′ → tableSchema t ≡ record { bound = bound; ranges = rangesFrom ends′ (16 * r) width } → maskOf (t .key) ≡ mask
     → Catalogued (added d (Item.table t)) shape′ ends′
 table-entered d t r kind width bound mask shape ends shape′ ends′ c e l first w p o v m =
     let s : Stored r kind width bound mask shape ends shape′ ends′ =

@@ -2,7 +2,7 @@
 use mathlib.Core.Path.{_≡_, refl, sym, ap, subst, _∙_}
 use mathlib.Core.Bool.{Bool, true, false, cond}
 use mathlib.Core.List.{List, []}
-use Prim.Native.Nat.{ℕ, _≤_, _<_}
+use Prim.Native.Nat.{ℕ, _≤_, _<_, min}
 use native.Mathlib.Omega.{arith}
 use lib.Dec.{ltb, leb, eqb}
 use lib.IntN.{ℤ}
@@ -11,7 +11,7 @@ use borrow.Author.Tests.{ltb-true, leb-true, eqb-true}
 use Rattle.value.proofs.Decides.{by-test, and-parts}
 use Rattle.meaning.specs.Syntax.{SetOperation, View}
 use Rattle.language.specs.Reading.{Read, Reader}
-use Rattle.meaning.specs.Bounds.{viewSchema, sameWidth, aggregatesFit, bounded, rangesFit}
+use Rattle.meaning.specs.Bounds.{setBound, viewSchema, sameWidth, aggregatesFit, bounded, rangesFit}
 use Rattle.language.specs.Draft.{Draft, Item, added, relationCount, schemasOf, isView, stageOf, inOrder, hasRoom}
 use Rattle.language.specs.Written.{setKind}
 use Rattle.language.specs.Frames.{frame, wholeFault, setFrame}
@@ -19,23 +19,25 @@ use Rattle.language.specs.Check.{wholeChecked, readChecked}
 use Rattle.checker.specs.Faults.{faultAt, faultOf}
 use Rattle.checker.specs.Catalogued.{Catalogued, checkedFault, bodyFault}
 use Rattle.checker.specs.FixedFaults.{TableFault, KeyFault, SetFault, GoalFault}
-use Rattle.checker.specs.Entries.{TableEntered, SetEntered}
-use Rattle.catalog.specs.Arrays.{putShape}
+use Rattle.checker.specs.Entries.{columnIn, joinedWith, TableEntered, SetEntered}
+use Rattle.catalog.specs.Arrays.{widthAt, boundAt, putShape}
 use Rattle.checker.specs.ViewFaults.{ownKind, ownFrame, BytesFault}
 use Rattle.checker.specs.ViewRules.{Rules}
 use Rattle.checker.specs.Standing.{Counts, DraftIn, Turned, withTable, withKey, withView, withGoal}
 use Rattle.catalog.specs.FileIn.{goalOf}
-use Rattle.catalog.specs.Frames.{setPartsIn, goalIn}
+use Rattle.catalog.specs.Frames.{tablePartsIn, setPartsIn, goalIn}
 use Rattle.catalog.specs.declared.frames.SetParts.{SetParts}
 use Rattle.catalog.specs.declared.plan.Goal.{Goal as GoalHere}
+use Rattle.catalog.proofs.ArrayLaws.{puts-outside}
 use Rattle.catalog.proofs.PartsRead.{SetRead, set-read, goal-read}
 use Rattle.checker.specs.declared.state.Progress.{Progress}
 use Rattle.checker.specs.declared.view_rules.Ruled.{Ruled}
 use Rattle.checker.proofs.EntryLaws.{key-entered, goal-entered}
 use Rattle.language.proofs.FairReaders.{Good, Nil}
 use Rattle.language.proofs.FairFrames.{Well, fair-frame}
+use Rattle.checker.proofs.SetLaws.{hulls-outside}
 use Rattle.checker.proofs.StandingLaws.{counts-table, counts-key, counts-view, counts-goal}
-use Rattle.checker.proofs.StepLaws.{stepAt, Found, turned-refused}
+use Rattle.checker.proofs.StepLaws.{stepAt, Found, only-none, only-stored, turned-refused}
 use Rattle.language.proofs.Turns.{itemStage, Turn, turn, stage-known}
 
 -- ---- an item that is read
@@ -57,12 +59,13 @@ key-found {ends = ends} k = λ d h o r. k .at d ends (h .catalogued) (h .fits) (
 module _ {f : List ℕ} {s : Progress} {shape : List ℕ} {ends : List ℤ} {n : ℕ} {s′ : Progress} where
   -- ---- 01
 
-  pub table-refused : {shape′ : List ℕ} {ends′ : List ℤ} → TableFault f n → (n ≡ 0 → ⊥) → Turned 1 f s shape ends shape′ ends′ (stepAt n s′)
+  pub table-refused : TableFault f n → (n ≡ 0 → ⊥) → Turned 1 f s shape ends shape ends (stepAt n s′)
   table-refused t nz = turned-refused n (λ d h o r. t .at d) nz
 
   pub table-done : {shape′ : List ℕ} {ends′ : List ℤ} → TableFault f n → n ≡ 0 → TableEntered f (s .relations) shape ends shape′ ends′ → s′ ≡ withTable s
       → Turned 1 f s shape ends shape′ ends′ (stepAt 0 s′)
   table-done {shape′} {ends′} t z e w = record {
+    only = let w = tablePartsIn f .width in only-stored w 1 w (tablePartsIn f .rows) (tablePartsIn f .mask) (e .shape-is) (rw (e .ends-are) (puts-outside (columnIn f) ends (s .relations) w w (omega arith)));
     fault = λ d h o r. sym z ∙ t .at d;
     next = λ d i h o r reads whole. go d i h (item-stage d 1 (drop 1 f) i o reads) (item-turn d 1 (drop 1 f) i o r reads) reads;
   }
@@ -83,6 +86,7 @@ module _ {f : List ℕ} {s : Progress} {shape : List ℕ} {ends : List ℤ} {n :
 
   pub key-done : KeyFault f shape (s .tables) n → n ≡ 0 → s′ ≡ withKey s → Turned 2 f s shape ends shape ends (stepAt 0 s′)
   key-done k z w = record {
+    only = only-none;
     fault = λ d h o r. sym z ∙ key-found k d h o r;
     next = λ d i h o r reads whole. go d i h (item-stage d 2 (drop 1 f) i o reads) (item-turn d 2 (drop 1 f) i o r reads);
   }
@@ -122,8 +126,8 @@ stage-own true = refl
 stage-own false = refl
 
 module _ (grouped : Bool) {f : List ℕ} {s : Progress} {shape : List ℕ} {ends : List ℤ} {n : ℕ} where
-  pub view-refused : {s′ : Progress} {shape′ : List ℕ} {ends′ : List ℤ} → BytesFault grouped f shape (s .relations) n → (n ≡ 0 → ⊥)
-      → Turned (ownKind grouped) f s shape ends shape′ ends′ (stepAt n s′)
+  pub view-refused : {s′ : Progress} → BytesFault grouped f shape (s .relations) n → (n ≡ 0 → ⊥)
+      → Turned (ownKind grouped) f s shape ends shape ends (stepAt n s′)
   unfolding bodyFault faultAt
   view-refused b nz = turned-refused n
       (λ d h o r.
@@ -146,6 +150,7 @@ module _ (grouped : Bool) {f : List ℕ} {s : Progress} {shape : List ℕ} {ends
       → Turned (ownKind grouped) f s shape ends shape′ ends′ (stepAt (a .fault) s′)
   unfolding bodyFault
   view-done {s′} {shape′} {ends′} a b z rules p w = record {
+    only = only-stored (a .width) 2 (a .width) (a .bound) 0 p (rules .outside);
     fault = λ d h o r.
         let (q, reads) = view-read b z d h o in
         let there : ownFrame grouped d (drop 1 f) ≡ Read.ok (Item.view q) [] = ap (λ (m : Reader Item). m (drop 1 f)) (sym (frame-own grouped d)) ∙ reads in
@@ -188,12 +193,16 @@ module _ (op : SetOperation) {f : List ℕ} {s : Progress} {shape : List ℕ} {e
   set-found : SetFault f shape (s .tables) (s .relations) op n → Found (setKind op) f s shape ends n
   set-found t = λ d h o r. t .at d ends (h .catalogued) (h .counts .tables) (h .counts .relations) ∙ ap (λ (m : Reader Item). bodyFault d m f) (sym (set-frame op d))
 
-  pub set-refused : {s′ : Progress} {shape′ : List ℕ} {ends′ : List ℤ} → SetFault f shape (s .tables) (s .relations) op n → (n ≡ 0 → ⊥) → Turned (setKind op) f s shape ends shape′ ends′ (stepAt n s′)
+  pub set-refused : {s′ : Progress} → SetFault f shape (s .tables) (s .relations) op n → (n ≡ 0 → ⊥) → Turned (setKind op) f s shape ends shape ends (stepAt n s′)
   set-refused t nz = turned-refused n (set-found t) nz
 
   pub set-done : {s′ : Progress} {shape′ : List ℕ} {ends′ : List ℤ} {p : SetParts} → SetFault f shape (s .tables) (s .relations) op n → n ≡ 0 → p ≡ setPartsIn f
       → SetEntered op (p .left) (p .right) (s .relations) shape ends shape′ ends′ → s′ ≡ withView s → Turned (setKind op) f s shape ends shape′ ends′ (stepAt 0 s′)
   set-done {s′} {shape′} {ends′} {p} t z pe e w = record {
+    only =
+        let other = joinedWith op (p .left) (p .right) in
+        let w = min (widthAt shape (p .left)) (widthAt shape other) in
+        only-stored w 2 w (min (setBound op (boundAt shape (p .left)) (boundAt shape (p .right))) 255) 0 (e .shape-is) (rw (e .ends-are) (hulls-outside shape ends (p .left) other (s .relations) w w (omega arith)));
     fault = λ d h o r. sym z ∙ set-found t d h o r;
     next = λ d i h o r reads whole. go d i h (set-read d op f i (ap (λ (m : Reader Item). m (drop 1 f)) (sym (set-frame op d)) ∙ reads))
         (item-turn d (setKind op) (drop 1 f) i o r reads) whole;
@@ -220,6 +229,7 @@ module _ (op : SetOperation) {f : List ℕ} {s : Progress} {shape : List ℕ} {e
 pub goal-done : {f : List ℕ} {s : Progress} {shape : List ℕ} {ends : List ℤ} {n : ℕ} {s′ : Progress} {g : GoalHere} → GoalFault f (s .tables) (s .relations) n
     → g ≡ goalIn f → s′ ≡ withGoal s g → Turned 7 f s shape ends shape ends (stepAt n s′)
 goal-done {f} {s} {shape} {ends} {n} {s′} {g} t e w = record {
+  only = only-none;
   fault = λ d h o r. t .at d (h .counts .tables) (h .counts .relations);
   next = λ d i h o r reads whole.
       let goal = goalOf (goalIn f) in

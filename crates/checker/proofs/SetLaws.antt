@@ -20,7 +20,7 @@ use Rattle.language.specs.Draft.{Draft, relationCount, schemasOf}
 use Rattle.checker.specs.Catalogued.{Catalogued}
 use Rattle.checker.specs.FixedFaults.{setOperation}
 use Rattle.checker.specs.Entries.{hullAt, Before, putHulls, joinedWith, SetEntered}
-use Rattle.catalog.proofs.ArrayLaws.{none, length-ranges, ranges-same, puts-outside, puts-ranges, puts-before}
+use Rattle.catalog.proofs.ArrayLaws.{none, length-ranges, ranges-same, put-outside, outside-same, outside-more, puts-ranges, puts-before}
 use Rattle.checker.proofs.EntryLaws.{view-entered}
 use Rattle.checker.proofs.FixedLaws.{bound-known}
 
@@ -42,6 +42,13 @@ module _ (shape : List ℕ) (ends : List ℤ) (left right r : ℕ) where
       → putRange now r c x ≡ putHulls shape ends left right r (c + 1)
   unfolding putHulls
   hulls-more c now x e h = rw (add-one c) (ap₂ (λ l y. putRange l r c y) e (h ∙ ap (λ l. hullAt shape l left right c) e))
+
+  pub hulls-outside : (n m : ℕ) → n ≤ m → Outside r m ends (putHulls shape ends left right r n)
+  unfolding putHulls
+  hulls-outside zero m h = outside-same r m ends
+  hulls-outside (suc n) m h =
+      let now = putHulls shape ends left right r n in
+      outside-more (hulls-outside n m (omega arith)) (put-outside now r n (hullAt shape now left right n) m (omega arith))
 
   -- of relations before r: the hulls of the ranges at the start
   hulls-stored : Before shape left r → Before shape right r → (n : ℕ) → putHulls shape ends left right r n ≡ putRanges (hullAt shape ends left right) ends r n
@@ -98,8 +105,8 @@ module _ {d : Draft} {shape : List ℕ} {ends : List ℤ} (c : Catalogued d shap
     put =
         p ∙ hulls-stored shape ends left right r (record { earlier = omega arith; narrow = c .widths left }) (record { earlier = omega arith; narrow = c .widths right }) width
 
-    put-outside : width ≤ 8 → Outside r ends after
-    put-outside w = rw put (puts-outside (hullAt shape ends left right) ends r width w)
+    hulls-apart : width ≤ 8 → Outside r 8 ends after
+    hulls-apart w = rw p (hulls-outside shape ends left right r width 8 w)
 
     put-ranges : r < 16 → width ≤ 8 → (rs : List Range) → length rs ≡ width → ((c : ℕ) → c < width → hullAt shape ends left right c ≡ getD rs c none)
         → rangesFrom after (16 * r) width ≡ rs
@@ -130,6 +137,6 @@ module _ (left right r width bound : ℕ) (shape : List ℕ) (ends : List ℤ) (
         (λ i h. sym (hulls-at L O i (omega arith) (omega arith))) in
         let hull : setRanges op (schema (schemasOf d) left .ranges) (schema (schemasOf d) right .ranges) ≡ hulls L O =
         ap₂ (setRanges op) (ranges-are c left) (ranges-are c right) ∙ set-hulls union (rangesIn shape ends) left right ∙ ap (λ i. hulls L (rangesIn shape ends i)) (sym o) in
-        view-entered d (View.set op left right) r 2 width bound 0 shape ends shape′ ends′ c e z few s (put-outside c left other r width ends′ e l x p few)
+        view-entered d (View.set op left right) r 2 width bound 0 shape ends shape′ ends′ c e z few s (hulls-apart c left other r width ends′ e l x p few)
         (ap₂ (λ a rs. record { bound = a; ranges = rs }) bounds (hull ∙ sym ranges));
   }

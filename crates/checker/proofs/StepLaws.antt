@@ -20,7 +20,9 @@ use Rattle.language.specs.Check.{Checked, checkFrame, readChecked}
 use Rattle.checker.specs.Catalogued.{Catalogued, checkedFault, bodyFault}
 use Rattle.checker.specs.FixedFaults.{setOperation}
 use Rattle.checker.specs.ViewFaults.{ownKind}
-use Rattle.checker.specs.Standing.{Counts, DraftIn, Turned, Stepped, turnFault}
+use Rattle.catalog.specs.Arrays.{putShape, Outside}
+use Rattle.catalog.proofs.ArrayLaws.{shape-length, shape-other}
+use Rattle.checker.specs.Standing.{Counts, DraftIn, OnlyRelation, Turned, Stepped, turnFault}
 use Rattle.checker.specs.declared.state.Progress.{Progress}
 use Rattle.checker.specs.declared.step.Step.{Step}
 use Rattle.checker.proofs.FitLaws.{fits-next}
@@ -47,28 +49,43 @@ module _ (d : Draft) (k : ℕ) (f : List ℕ) where
   unfolding bodyFault
   body-zero r w = rw (r, w)
 
+-- ---- which numbers may change
+
+pub only-none : {r : ℕ} {shape : List ℕ} {ends : List ℤ} → OnlyRelation r shape ends shape ends
+only-none = record { shape-size = refl; bytes = λ k h. refl; ends-size = refl; ranges = λ k h. refl }
+
+pub only-stored : {r : ℕ} (n kind width bound mask : ℕ) {shape : List ℕ} {ends : List ℤ} {shape′ : List ℕ} {ends′ : List ℤ}
+    → shape′ ≡ putShape shape r kind width bound mask → Outside r n ends ends′ → OnlyRelation r shape ends shape′ ends′
+only-stored {r} n kind width bound mask {shape} s o = record {
+  shape-size = ap length s ∙ shape-length shape r kind width bound mask;
+  bytes = λ k h. ap (λ l. getD l k 0) s ∙ shape-other shape r kind width bound mask k h;
+  ends-size = o .size;
+  ranges = o .before;
+}
+
 -- n is the fault of the frame's body
 abbrev pub Found : ℕ → List ℕ → Progress → List ℕ → List ℤ → ℕ → Type 0
 Found k f s shape ends n = (d : Draft) → DraftIn d s shape ends → inOrder d k ≡ true → hasRoom d k ≡ true → n ≡ bodyFault d (frame d k) f
 
-pub turned-refused : {k : ℕ} {f : List ℕ} {s : Progress} {shape : List ℕ} {ends : List ℤ} {shape′ : List ℕ} {ends′ : List ℤ} (n : ℕ) {s′ : Progress}
-    → Found k f s shape ends n → (n ≡ 0 → ⊥) → Turned k f s shape ends shape′ ends′ (stepAt n s′)
+pub turned-refused : {k : ℕ} {f : List ℕ} {s : Progress} {shape : List ℕ} {ends : List ℤ} (n : ℕ) {s′ : Progress}
+    → Found k f s shape ends n → (n ≡ 0 → ⊥) → Turned k f s shape ends shape ends (stepAt n s′)
 turned-refused {k} {f} n found nz =
-    record { fault = found; next = λ d i h o r reads w. absurd (nz (found d h o r ∙ body-zero d k f reads w)) }
+    record { only = only-none; fault = found; next = λ d i h o r reads w. absurd (nz (found d h o r ∙ body-zero d k f reads w)) }
 
 -- ---- any frame
 
 module _ {f : List ℕ} {s : Progress} {shape : List ℕ} {ends : List ℤ} where
-  stopped : (shape′ : List ℕ) (ends′ : List ℤ) (n : ℕ) (s′ : Progress) → ((d : Draft) → DraftIn d s shape ends → checkFrame d f ≡ Checked.fault n)
-      → Stepped f s shape ends shape′ ends′ (stepAt n s′)
-  stopped shape′ ends′ n s′ e = record {
+  stopped : (n : ℕ) (s′ : Progress) → ((d : Draft) → DraftIn d s shape ends → checkFrame d f ≡ Checked.fault n)
+      → Stepped f s shape ends shape ends (stepAt n s′)
+  stopped n s′ e = record {
+    only = only-none;
     fault = λ d h. sym (ap checkedFault (e d h));
     next = λ d g h q. let both : Checked.fault n ≡ Checked.next g = sym (e d h) ∙ q in let z : _≡_ {A = ℕ} 0 1 = cc in absurd (omega arith);
   }
 
-  pub stepped-empty : (shape′ : List ℕ) (ends′ : List ℤ) (s′ : Progress) → length f ≡ 0 → Stepped f s shape ends shape′ ends′ (stepAt 4 s′)
+  pub stepped-empty : (s′ : Progress) → length f ≡ 0 → Stepped f s shape ends shape ends (stepAt 4 s′)
   unfolding checkFrame
-  stepped-empty shape′ ends′ s′ e = stopped shape′ ends′ 4 s′ (λ d h. at f e d)
+  stepped-empty s′ e = stopped 4 s′ (λ d h. at f e d)
     where
       at : (f : List ℕ) → length f ≡ 0 → (d : Draft) → checkFrame d f ≡ Checked.fault 4
       at [] e d = refl
@@ -85,15 +102,15 @@ unfolding checkFrame
 body-checked f some d o r = ap (checkFrame d) (cut f some) ∙ rw (o, r)
 
 module _ {f : List ℕ} {s : Progress} {shape : List ℕ} {ends : List ℤ} (some : 0 < length f) where
-  pub stepped-turn : (shape′ : List ℕ) (ends′ : List ℤ) (n : ℕ) (s′ : Progress) → n ≡ turnFault s (getD f 0 0) → (n ≡ 0 → ⊥)
-      → Stepped f s shape ends shape′ ends′ (stepAt n s′)
-  stepped-turn shape′ ends′ n s′ e nz = stopped shape′ ends′ n s′
+  pub stepped-turn : (n : ℕ) (s′ : Progress) → n ≡ turnFault s (getD f 0 0) → (n ≡ 0 → ⊥) → Stepped f s shape ends shape ends (stepAt n s′)
+  stepped-turn n s′ e nz = stopped n s′
       (λ d h. ap (checkFrame d) (cut f some) ∙ turn-refused (h .counts) (getD f 0 0) (drop 1 f) (λ z. nz (e ∙ z)) ∙ ap Checked.fault (sym e))
 
   pub stepped-body : (shape′ : List ℕ) (ends′ : List ℤ) (n : ℕ) (r : Step) → n ≡ turnFault s (getD f 0 0) → n ≡ 0
       → Turned (getD f 0 0) f s shape ends shape′ ends′ r → Stepped f s shape ends shape′ ends′ r
   unfolding bodyFault
   stepped-body shape′ ends′ n r e z t = record {
+    only = t .only;
     fault = λ d h.
         let p = turn-passed (h .counts) (getD f 0 0) (sym e ∙ z) in
         t .fault d h (p .0) (p .1) ∙ ap checkedFault (sym (body-checked f some d (p .0) (p .1)));
@@ -145,6 +162,7 @@ seven = by-kind (λ k. (1 ≤ k → k ≤ 6 → ⊥) → k ≡ 7) (λ n. early 1
 pub turned-other : {f : List ℕ} {s : Progress} {shape : List ℕ} {ends : List ℤ} {shape′ : List ℕ} {ends′ : List ℤ} {r : Step} (k : ℕ)
     → (1 ≤ k → k ≤ 6 → ⊥) → Turned 7 f s shape ends shape′ ends′ r → Turned k f s shape ends shape′ ends′ r
 turned-other {f} {s} {shape} {ends} {shape′} {ends′} {r} k a t = record {
+  only = t .only;
   fault = λ x h o p. let q = seven k (stage-known x k o) a in
       subst (λ (j : ℕ). r .fault ≡ bodyFault x (frame x j) f) (sym q) (t .fault x h (subst (λ (j : ℕ). inOrder x j ≡ true) q o) (subst (λ (j : ℕ). hasRoom x j ≡ true) q p));
   next = λ x i h o p reads w. let q = seven k (stage-known x k o) a in

@@ -95,7 +95,7 @@ parts-entered frame r shape ends shape′ ends′ s p = record {
       let few : w ≤ 8 = omega (arith, h .few) in
       let ranges : rangesFrom ends′ (16 * r) w ≡ map rangeOf (t .columns) = rw p
       (puts-ranges (columnIn frame) ends r l (c .ends-size) w few (map rangeOf (t .columns)) (length-map (t .columns) rangeOf ∙ long) (λ i k. column-in frame i ∙ column i k)) in
-      table-entered d t r 1 w (tablePartsIn frame .rows) (tablePartsIn frame .mask) shape ends shape′ ends′ c e l v few s (rw p (puts-outside (columnIn frame) ends r w few))
+      table-entered d t r 1 w (tablePartsIn frame .rows) (tablePartsIn frame .mask) shape ends shape′ ends′ c e l v few s (rw p (puts-outside (columnIn frame) ends r w 8 few))
       (ap₂ (λ b rs. record { bound = b; ranges = rs }) (h .rows) (sym ranges)) (h .mask);
 }
 

@@ -38,7 +38,7 @@ use Rattle.checker.specs.ViewFaults.{ownFrame}
 use Rattle.checker.specs.ViewRules.{factorAt, productOf, ProductBound, putRanged, viewFault, plainRule, EntryRoom, Selects, RuledAs, Tail, OpeningOf, Rules, RulesFrom}
 use Rattle.checker.specs.declared.view_rules.Ruled.{Ruled}
 use Rattle.checker.specs.declared.view_rules.Opening.{Opening}
-use Rattle.catalog.proofs.ArrayLaws.{put-length, put-next, put-outside, outside-same, outside-more, outside-ranges}
+use Rattle.catalog.proofs.ArrayLaws.{put-length, put-next, put-outside, outside-same, outside-wider, outside-more, outside-ranges}
 use Rattle.checker.proofs.EntryLaws.{view-entered}
 use Rattle.checker.proofs.FixedLaws.{bound-known}
 use Rattle.checker.proofs.ViewByteLaws.{widths-are}
@@ -83,16 +83,16 @@ product-three shape items p e = record { product = λ h. e ∙ go items h }
 -- ---- the select expressions
 
 -- the relations of the from list are as they were
-items-same : (shape : List ℕ) {r : ℕ} {ends ends′ : List ℤ} → Outside r ends ends′ → ((i : ℕ) → widthAt shape i ≤ 8)
+items-same : (shape : List ℕ) {r : ℕ} {ends ends′ : List ℤ} → Outside r 8 ends ends′ → ((i : ℕ) → widthAt shape i ≤ 8)
     → (fs : List ℕ) → All (λ i. i < r) fs → itemsIn shape ends′ fs ≡ itemsIn shape ends fs
 items-same shape o w [] All.nil = refl
 items-same shape o w (f ∷ fs) (All.cons h t) =
     ap₂ _∷_ (outside-ranges o f (widthAt shape f) (λ e. omega arith) (w f)) (items-same shape o w fs t)
 
-ranged-outside : (ends : List ℤ) (r c : ℕ) (x : Ranged) → c < 8 → Outside r ends (putRanged ends r c x)
+ranged-outside : (ends : List ℤ) (r c : ℕ) (x : Ranged) → Outside r (c + 1) ends (putRanged ends r c x)
 unfolding putRanged
-ranged-outside ends r c (Within x) h = put-outside ends r c x h
-ranged-outside ends r c Beyond h = outside-same r ends
+ranged-outside ends r c (Within x) = put-outside ends r c x (c + 1) (omega arith)
+ranged-outside ends r c Beyond = outside-same r (c + 1) ends
 
 pub ranged-length : (ends : List ℤ) (r c : ℕ) (x : Ranged) → length (putRanged ends r c x) ≡ length ends
 unfolding putRanged
@@ -114,7 +114,7 @@ module _ (frame : List ℕ) (start : ℕ) (items shape : List ℕ) (ends : List 
   unfolding rangesFrom
   selects-none = record {
     so-far = record {
-      outside = λ _. outside-same r ends;
+      outside = outside-same r 0 ends;
       selects = λ room l es rest h.
           let e : [] ≡ es = cc in (
             ap (all (allowedE (permittedOf frame rule))) e,
@@ -130,13 +130,13 @@ module _ (frame : List ℕ) (start : ℕ) (items shape : List ℕ) (ends : List 
       → SelectsTo (c + 1) now′ (z .next) (allowed && z .allowed) (within && fits)
   selects-more c now now′ at allowed within fits z s y f q = record {
     so-far = record {
-      outside = λ l. outside-more (s .so-far .outside (omega arith)) (rw q (ranged-outside now r c (z .range) (omega arith)));
+      outside = outside-more (outside-wider (omega arith) (s .so-far .outside)) (rw q (ranged-outside now r c (z .range)));
       selects = λ room l es rest h.
           let reader = readE (openIn shape items) in
           let I = openRangesIn shape ends items (rule .bound) in
           let (es₀, x, mid, u, v, w) = times-snoc reader c (drop start frame) es rest (rw (add-one c) at h) in
           let (a, b, ranges) = s .so-far .selects room (omega arith) es₀ mid u in
-          let o : Outside r ends now = s .so-far .outside (omega arith) in
+          let o : Outside r 8 ends now = outside-wider (omega arith) (s .so-far .outside) in
           let same : itemsIn shape now items ≡ itemsIn shape ends items = items-same shape o (room .widths) items (room .earlier) in
           let (_, al, rg) = y .sizes x rest (ap reader (s .next es₀ mid u) ∙ v) in
           let rg′ : z .range ≡ rangedE I x = rg ∙ ap (λ i. rangedE (record { ranges = i; bound = rule .bound }) x) same in
@@ -171,13 +171,14 @@ pub tail-ruled : (frame : List ℕ) (head : Tested) (count : ℕ) (items shape :
     → a .fault ≡ viewFault (head .allowed && allowed) (rule .bound) (head .within && within) → a .bound ≡ rule .bound % 256 → a .width ≡ count
     → Tail frame head count items shape ends r rule ends′ a
 tail-ruled frame head count items shape ends r rule ends′ a allowed within s f b w = record {
+  outside = rw w (s .outside);
   ruled = λ room l es rest h.
       let (p, q, g) = s .selects room l es rest h in
       record {
         fault = f ∙ ap₂ (λ u v. viewFault (head .allowed && u) (rule .bound) (head .within && v)) p q;
         bound = b;
         narrow = rw w l;
-        outside = s .outside l;
+        outside = outside-wider l (s .outside);
         ranges = λ t. rw w (g (q ∙ and-parts (head .within) _ t .1));
       };
 }
@@ -342,6 +343,7 @@ module _ (frame : List ℕ) (r : ℕ) (shape : List ℕ) (ends ends′ : List �
     rules = λ O.
         let B = basic-ruled frame (o .parts) froms shape ends r ends′ a (o .bound) (o .filter) (O .product) (O .tested) rule re s in
         record {
+          outside = s .outside;
           fault = λ d q c e l h. basic-ruling d c r e l ends′ a q frame (o .parts) froms (O .froms) (O .parts-are) B h .fault;
           entered = λ d q c e l h. basic-ruling d c r e l ends′ a q frame (o .parts) froms (O .froms) (O .parts-are) B h .entered;
         };
@@ -355,6 +357,7 @@ module _ (frame : List ℕ) (r : ℕ) (shape : List ℕ) (ends ends′ : List �
     rules = λ O.
         let B = grouped-ruled frame (o .parts) froms shape ends r ends′ a (o .bound) (o .filter) (O .product) (O .tested) places h′ head he at u s in
         record {
+          outside = s .outside;
           fault = λ d q c e l h. grouped-ruling d c r e l ends′ a q frame (o .parts) froms (O .froms) (O .parts-are) B (grouped-read d frame q h) .fault;
           entered = λ d q c e l h. grouped-ruling d c r e l ends′ a q frame (o .parts) froms (O .froms) (O .parts-are) B (grouped-read d frame q h) .entered;
         };

@@ -63,7 +63,7 @@ pub record EntryRoom (shape : List ℕ) (ends : List ℤ) (items : List ℕ) (r 
 -- ---- the select expressions: c of them from a position on, and what is stored of them
 
 pub record Selects (frame : List ℕ) (start c : ℕ) (items shape : List ℕ) (ends : List ℤ) (r : ℕ) (rule : Rule) (ends′ : List ℤ) (allowed within : Bool) : Type 0 where
-  pub outside : c ≤ 8 → Outside r ends ends′
+  pub outside : Outside r c ends ends′
   pub selects : EntryRoom shape ends items r → c ≤ 8 → (es : List Expr) (rest : List ℕ)
       → repeated c (readE (openIn shape items)) (drop start frame) ≡ Read.ok es rest
       → (allowed ≡ all (allowedE (permittedOf frame rule)) es)
@@ -75,10 +75,11 @@ pub record RuledAs (allowed within : Bool) (es : List Expr) (I : OpenRanges) (r 
   pub fault : a .fault ≡ viewFault allowed (I .bound) within
   pub bound : a .bound ≡ I .bound % 256
   pub narrow : a .width ≤ 8
-  pub outside : Outside r ends ends′
+  pub outside : Outside r 8 ends ends′
   pub ranges : within ≡ true → rangesFrom ends′ (16 * r) (a .width) ≡ map (range I) es
 
 pub record Tail (frame : List ℕ) (head : Tested) (count : ℕ) (items shape : List ℕ) (ends : List ℤ) (r : ℕ) (rule : Rule) (ends′ : List ℤ) (a : Ruled) : Type 0 where
+  pub outside : Outside r (a .width) ends ends′
   pub ruled : EntryRoom shape ends items r → count ≤ 8 → (es : List Expr) (rest : List ℕ)
       → repeated count (readE (openIn shape items)) (drop (head .next) frame) ≡ Read.ok es rest
       → RuledAs (head .allowed && all (allowedE (permittedOf frame rule)) es)
@@ -94,8 +95,9 @@ pub record OpeningOf (grouped : Bool) (frame shape : List ℕ) (ends : List ℤ)
   pub product : ProductBound shape (relationsIn (o .items)) (o .bound)
   pub tested : TestsC frame (o .parts .body) (relationsIn (o .items)) shape ends (plainRule (o .bound) true) (o .filter)
 
--- for every draft that the arrays stand for, and every view that the frame's bytes read as
+-- which numbers may change, of any bytes; the rest for every draft that the arrays stand for, and every view that the frame's bytes read as
 pub record Rules (reader : Draft → Reader Item) (frame : List ℕ) (r : ℕ) (shape : List ℕ) (ends ends′ : List ℤ) (a : Ruled) : Type 0 where
+  pub outside : Outside r (a .width) ends ends′
   pub fault : (d : Draft) (q : View) → Catalogued d shape ends → r ≡ relationCount d → r < 16 → reader d (drop 1 frame) ≡ Read.ok (Item.view q) []
       → a .fault ≡ wholeFault d (Item.view q)
   pub entered : (d : Draft) (q : View) → Catalogued d shape ends → r ≡ relationCount d → r < 16 → reader d (drop 1 frame) ≡ Read.ok (Item.view q) []

@@ -32,7 +32,7 @@ pub fn between(frame: &[u8], at: usize, number: u8, lo: u8, hi: u8) -> u8
 
 // A byte below n, else the fault `number`.
 // Refused: n itself kept; 4 for the number.
-pub fn below(frame: &[u8], at: usize, number: u8, n: u8) -> u8
+pub(crate) fn below(frame: &[u8], at: usize, number: u8, n: u8) -> u8
     ensures { λ r. ⌜ r ≡ faultAt (now (frame .entry)) at (byteIf number (under n)) ⌝ }
 {
     if frame.len() <= at {

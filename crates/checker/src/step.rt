@@ -109,8 +109,8 @@ fn body_step(kind: u8, frame: &[u8], shape: &mut [u8], ends: &mut [i32], s: Prog
     }
 }
 
-// One frame: its fault, or the state and the arrays with what it adds. What they hold beside a fault is open: the walk ends there, and a
-// refused plan has none of it.
+// One frame: its fault, or the state and the arrays with what it adds. What is entered beside a fault is open: the walk ends there, and a
+// refused plan has none of it. Which numbers may change is said of every input.
 // Refused: 3 for a 17th relation or foreign key; every frame as a table's.
 pub(crate) fn frame_step(frame: &[u8], shape: &mut [u8], ends: &mut [i32], s: Progress) -> Step
     ensures { λ r. ⌜ Stepped (now (frame .entry)) s (now (shape .entry)) (now (ends .entry)) (now (shape .exit)) (now (ends .exit)) r ⌝ }

@@ -244,7 +244,7 @@ fn grouped_rules(frame: &[u8], o: Opening, shape: &[u8], ends: &mut [i32], r: u8
 }
 
 // The rules on the whole frame of an aggregate or of a basic view, 7, 8 and 9, and the ranges of its columns. Of bytes that are no such frame
-// the answer is open: the byte pass has refused them before.
+// the answer is open, but for which numbers may change: the byte pass has refused them before.
 // Refused: an aggregate view's ranges as relation 0's; a basic view's.
 pub(crate) fn rules(frame: &[u8], shape: &[u8], ends: &mut [i32], r: u8, grouped: bool) -> Ruled
     ensures { λ a. ⌜ Rules (ownFrame grouped) (now (frame .entry)) r (now (shape .entry)) (now (ends .entry)) (now (ends .exit)) a ⌝ }

@@ -12,7 +12,7 @@ use Rattle.value.specs.Value.{Value, shown}
 use Rattle.value.proofs.Decides.{by-test}
 use Rattle.meaning.specs.Syntax.{File}
 use Rattle.meaning.specs.Candidates.{candidates}
-use Rattle.meaning.specs.Look.{Answer, After, zeros, workSize}
+use Rattle.meaning.specs.Look.{Answer, numberOf, valuesOf, After, answerIn, zeros, workSize}
 use Rattle.meaning.specs.Decided.{refusal, shownIn, afterSearch, look}
 use Rattle.meaning.proofs.LookTests.{look-short, look-late, look-on, search-case, search-none}
 use Rattle.language.specs.Check.{Outcome}
@@ -24,7 +24,7 @@ use Rattle.look.specs.Cells.{codesOf, CellsOf}
 use Rattle.look.specs.Moves.{placesFrom, Digits}
 use Rattle.look.specs.Scans.{FirstFound, Searched}
 use Rattle.look.specs.Buffers.{Shows}
-use Rattle.look.specs.Looks.{answerOf, cellsBy, Leaves, Concludes, Looked, LooksAt}
+use Rattle.look.specs.Looks.{answerOf, numberTold, valuesTold, LooksText, cellsBy, Leaves, Concludes, Looked, LooksAt}
 use Rattle.language.specs.LookOf.{lookAt, lookOf}
 use Rattle.look.specs.declared.scan.Span.{Span}
 use Rattle.look.specs.declared.Answer.{Answer as Answered}
@@ -163,6 +163,18 @@ module _ {p : Plan} {start count : ℕ} {work inst : List ℤ} where
 
 -- ---- a look at a text
 
+number-told : (r : Answered) → numberTold r ≡ numberOf (answerOf r)
+number-told (Case k) = refl
+number-told NoCase = refl
+number-told (Spent next) = refl
+number-told (Refused n l) = refl
+
+values-told : (r : Answered) → valuesTold r ≡ valuesOf (answerOf r)
+values-told (Case k) = refl
+values-told NoCase = refl
+values-told (Spent next) = refl
+values-told (Refused n l) = refl
+
 module _ (text : List ℕ) {p : Plan} {start count : ℕ} {work inst : List ℤ} {r : Answered} {work′ inst′ : List ℤ}
     (L : LooksAt p start count work inst r work′ inst′) where
   looks-so : workSize ≤ length work → (out : Outcome) → Plans out p → After.after (answerOf r) work′ inst′ ≡ lookAt out start count work inst
@@ -170,10 +182,17 @@ module _ (text : List ℕ) {p : Plan} {start count : ℕ} {work inst : List ℤ}
       L .refused whole (λ z. P .2 (sym (P .0) ∙ z)) ∙ ap₂ (λ a b. After.after (Answer.refused a b) work inst) (P .0) (P .1)
   looks-so whole (Outcome.accepted F) P = L .accepted F P
 
-  -- a look at the plan of a text is one at the text
-  pub looks-planned : Plans (fileOf text) p → After.after (answerOf r) work′ inst′ ≡ lookOf text start count work inst
+  after-planned : Plans (fileOf text) p → After.after (answerOf r) work′ inst′ ≡ lookOf text start count work inst
   unfolding lookOf
-  looks-planned P =
+  after-planned P =
       by-test (ltb (length work) workSize)
       (λ t. rw t (L .short (ltb-true (length work) workSize t)))
       (λ t. rw t (looks-so (ltb-false (length work) workSize t) (fileOf text) P))
+
+  -- a look at the plan of a text is one at the text
+  pub looks-planned : Plans (fileOf text) p → LooksText text start count work inst r work′ inst′
+  looks-planned P = record {
+    after = after-planned P;
+    number = number-told r ∙ ap (λ x. numberOf (answerIn x)) (after-planned P);
+    values = values-told r ∙ ap (λ x. valuesOf (answerIn x)) (after-planned P);
+  }

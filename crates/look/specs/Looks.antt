@@ -1,14 +1,15 @@
 -- The answers of a look, and what the functions of this crate give. Assumes nothing: these are definitions.
 use mathlib.Core.Path.{_≡_}
 use mathlib.Core.Bool.{cond}
-use mathlib.Core.List.{List}
+use mathlib.Core.List.{List, [], _∷_}
 use Prim.Native.Nat.{ℕ, _≤_, _<_}
 use lib.Dec.{eqb}
 use lib.IntN.{ℤ, pos}
 use lib.ListN.{length, getD}
 use Rattle.meaning.specs.Syntax.{File}
-use Rattle.meaning.specs.Look.{Answer, After, zeros, workSize}
+use Rattle.meaning.specs.Look.{Answer, numberOf, valuesOf, After, answerIn, zeros, workSize}
 use Rattle.meaning.specs.Decided.{refusal, look}
+use Rattle.language.specs.LookOf.{lookOf}
 use Rattle.catalog.specs.Arrays.{widthAt, boundAt}
 use Rattle.catalog.specs.FileIn.{PlanOf}
 use Rattle.catalog.specs.declared.plan.Plan.{Plan}
@@ -23,7 +24,27 @@ answerOf NoCase = Answer.noCase
 answerOf (Spent next) = Answer.spent next
 answerOf (Refused n l) = Answer.refused n l
 
+-- "For each answer that is an enum, a definition gives this paper's number and values for every case of that enum": the frames 80 and k, 82, and
+-- 8f with number and line. "spent" is no frame: its number is 0, and its value next
+abbrev pub numberTold : Answered → ℕ
+numberTold (Case k) = 0x80
+numberTold NoCase = 0x82
+numberTold (Spent next) = 0
+numberTold (Refused n l) = 0x8f
+
+abbrev pub valuesTold : Answered → List ℕ
+valuesTold (Case k) = k ∷ []
+valuesTold NoCase = []
+valuesTold (Spent next) = next ∷ []
+valuesTold (Refused n l) = n ∷ l ∷ []
+
 -- ---- what the code gives
+
+-- a look at a text: the answer and both buffers are those of the definition, and so are the answer's number and values
+pub record LooksText (text : List ℕ) (start count : ℕ) (work inst : List ℤ) (r : Answered) (work′ inst′ : List ℤ) : Type 0 where
+  pub after : After.after (answerOf r) work′ inst′ ≡ lookOf text start count work inst
+  pub number : numberTold r ≡ numberOf (answerIn (lookOf text start count work inst))
+  pub values : valuesTold r ≡ valuesOf (answerIn (lookOf text start count work inst))
 
 pub record Concludes (end n : ℕ) (r : Answered) : Type 0 where
   pub concludes : answerOf r ≡ cond (eqb end n) Answer.noCase (Answer.spent end)

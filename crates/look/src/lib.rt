@@ -7,10 +7,7 @@ pub mod scan;
 use catalog::plan::Plan;
 use checker::plan;
 use scan::Span;
-ghost use mathlib.Core.Path.{_≡_};
-ghost use Rattle.meaning.specs.Look.{After};
-ghost use Rattle.look.specs.Looks.{answerOf, Concludes, Looked, LooksAt};
-ghost use Rattle.language.specs.LookOf.{lookOf};
+ghost use Rattle.look.specs.Looks.{LooksText, Concludes, Looked, LooksAt};
 
 // The work area has at least this many numbers.
 pub const AREA: usize = 9216;
@@ -87,7 +84,7 @@ pub fn look_at(p: Plan, start: u64, count: u64, work: &mut [i32], instance: &mut
 // A look: for every text, start, count and buffers, the answer and what the buffers then hold.
 // Refused: a search from 0 for any start; start and count swapped.
 pub fn look(text: &[u8], start: u64, count: u64, work: &mut [i32], instance: &mut [i16]) -> Answer
-    ensures { λ r. ⌜ After.after (answerOf r) (now (work .exit)) (now (instance .exit)) ≡ lookOf (now (text .entry)) start count (now (work .entry)) (now (instance .entry)) ⌝ }
+    ensures { λ r. ⌜ LooksText (now (text .entry)) start count (now (work .entry)) (now (instance .entry)) r (now (work .exit)) (now (instance .exit)) ⌝ }
 {
     let p = plan::check(text);
     look_at(p, start, count, work, instance)

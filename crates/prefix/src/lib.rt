@@ -42,7 +42,7 @@ pub fn word_at(frame: &[u8], at: usize) -> u16
 
 // One byte, whose test the caller has made.
 // Refused: the byte is left; 4 for the number.
-pub fn tested(frame: &[u8], at: usize, number: u8, passes: bool) -> Skip
+fn tested(frame: &[u8], at: usize, number: u8, passes: bool) -> Skip
     ensures { λ r. ⌜ skipTold r ≡ skipped (now (frame .entry)) at (byteIf number (λ _. passes)) ⌝ }
 {
     if frame.len() <= at {
@@ -92,7 +92,7 @@ fn two_bytes(frame: &[u8], at: usize) -> Skip
 
 // Two bytes from 1 to 1,000.
 // Refused: 0 passes; 1,001 passes.
-pub fn step(frame: &[u8], at: usize) -> Skip
+fn step(frame: &[u8], at: usize) -> Skip
     ensures { λ r. ⌜ skipTold r ≡ skipped (now (frame .entry)) at stepR ⌝ }
 {
     match two_bytes(frame, at) {

@@ -139,7 +139,7 @@ impl Range {
 
     // The numbers of rows up to the row bound.
     // Refused: one row too many; from 1.
-    pub fn count(bound: u32) -> Ranged
+    fn count(bound: u32) -> Ranged
         ensures { λ r. ⌜ rangedTold r ≡ fitted (countOf bound) ⌝ }
     {
         Range::checked(0, integer::offset(0, bound))

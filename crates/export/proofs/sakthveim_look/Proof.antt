@@ -19,7 +19,7 @@ same-length-2 c = search needs
 returns : tie.Need-returns
 returns c =
     let args = c .before .before .before .before .before .before .before .args in
-    told-look (args .text .now) (args .start) (args .count) (args .work .now) (args .instance .now) (c .before .before .before .look .ensures) (c .told .ensures)
+    told-look (args .text .now) (args .start) (args .count) (args .work .now) (args .instance .now) (c .before .before .before .look .ensures .after) (c .told .ensures)
 
 pub sakthveim-look-spec : {M : Type 1} → statement M
 sakthveim-look-spec =

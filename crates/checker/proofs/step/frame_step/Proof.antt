@@ -6,7 +6,7 @@ use Rattle.checker.proofs.step.frame_step.Statement.{statement}
 use Rattle.checker.proofs.step.frame_step.Tie as tie
 
 returns : tie.Need-returns
-returns c = stepped-empty _ _ _ (c .if1 .taken)
+returns c = stepped-empty _ (c .if1 .taken)
 
 shared-slice-read-kind : tie.Need-shared-slice-read-kind
 shared-slice-read-kind c = search needs
@@ -15,7 +15,7 @@ turn-fault-requires : tie.Need-turn-fault-requires
 turn-fault-requires c κs = search needs
 
 returns-2 : tie.Need-returns-2
-returns-2 c = stepped-turn (omega arith) _ _ _ _ (c .before .turn-fault .ensures) (c .if2 .taken)
+returns-2 c = stepped-turn (omega arith) _ _ (c .before .turn-fault .ensures) (c .if2 .taken)
 
 body-step-requires : tie.Need-body-step-requires
 body-step-requires c κs = search needs
