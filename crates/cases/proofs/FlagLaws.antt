@@ -16,7 +16,7 @@ use Rattle.meaning.proofs.Elements.{all-append, all-before, all-here}
 use Rattle.meaning.proofs.Stacks.{by-lt}
 use Rattle.catalog.specs.Arrays.{setNeeded, setAsked}
 use Rattle.catalog.proofs.ArrayLaws.{first-same, first-more, first-set}
-use Rattle.cases.specs.Needs.{Flag, flagOf, More, NamesSet, AllSet}
+use Rattle.cases.specs.Needs.{Flag, flagOf, More, setFlags, NamesSet, AllSet}
 
 -- ---- flags only grow
 
@@ -90,14 +90,21 @@ module _ (m : ℕ) (low : 6 ≤ m) (high : m < 8) (shape : List ℕ) {shape′ :
 
 -- ---- the flags of the relations that are named, one more in each turn
 
+flags-snoc : (m : ℕ) (is : List ℕ) (b : ℕ) (shape : List ℕ) → setFlags m (is ++ (b ∷ [])) shape ≡ set (setFlags m is shape) (8 * b + m) 1
+unfolding setFlags
+flags-snoc m [] b shape = refl
+flags-snoc m (i ∷ is) b shape = flags-snoc m is b (set shape (8 * i + m) 1)
+
 pub names-none : (m : ℕ) (is shape : List ℕ) → NamesSet m (take 0 is) shape shape
-names-none m is shape = record { more = more-same shape; named = λ z h. All.nil; others = λ k h. refl }
+unfolding setFlags
+names-none m is shape = record { here = refl; more = more-same shape; named = λ z h. All.nil; others = λ k h. refl }
 
 module _ (m : ℕ) (low : 6 ≤ m) (high : m < 8) where
   names-last : (is shape shape′ shape″ : List ℕ) (b : ℕ) → NamesSet m is shape shape′ → shape″ ≡ set shape′ (8 * b + m) 1 → NamesSet m (is ++ (b ∷ [])) shape shape″
   names-last is shape shape′ shape″ b s e =
       let one = more-set m low high shape′ b e in
       record {
+        here = e ∙ ap (λ (l : List ℕ). set l (8 * b + m) 1) (s .here) ∙ sym (flags-snoc m is b shape);
         more = more-more (s .more) one;
         named = λ z h.
             let before : All (Flag m shape″) is = more-all one (s .named z (all-before is (b ∷ []) h)) in

@@ -1,14 +1,14 @@
 -- The relations that a goal depends on. Assumes nothing.
-use mathlib.Core.Path.{_≡_, refl, sym, ap, subst, _∙_}
-use mathlib.Core.Bool.{true, false}
+use mathlib.Core.Path.{_≡_, refl, sym, ap, ap₂, subst, _∙_}
+use mathlib.Core.Bool.{Bool, true, false, true≢false, _&&_, _||_}
 use mathlib.Core.List.{List}
 use mathlib.Core.Option.{some}
-use Prim.Native.Nat.{ℕ, _+_, _*_, _-_, _≤_, _<_}
+use Prim.Native.Nat.{ℕ, suc, _+_, _*_, _-_, _≤_, _<_}
 use native.Mathlib.Omega.{arith}
-use lib.Dec.{eqb}
+use lib.Dec.{eqb, ltb, leb}
 use lib.IntN.{ℤ}
 use lib.ListN.{length, getD, set}
-use borrow.Author.Tests.{eqb-true, eqb-false}
+use borrow.Author.Tests.{eqb-true, eqb-false, lt-ltb, le-ltb, le-leb, lt-leb}
 use Rattle.value.specs.Bag.{All}
 use Rattle.value.proofs.Decides.{by-test}
 use Rattle.value.proofs.Values.{all-map}
@@ -23,14 +23,15 @@ use Rattle.meaning.proofs.Stacks.{by-lt, getElem-some}
 use Rattle.language.specs.Legal.{Legal}
 use Rattle.language.specs.Written.{viewBytes}
 use Rattle.language.proofs.LegalAccepted.{legal-wellFormed}
+use Rattle.catalog.specs.Arrays.{neededAt, askedAt}
 use Rattle.catalog.specs.Frames.{frameIn, namesIn}
 use Rattle.catalog.specs.FileIn.{Source, withFlags, FileIn}
 use Rattle.catalog.specs.declared.plan.Goal.{Goal as GoalHere}
 use Rattle.catalog.proofs.FileLaws.{file-kept}
 use Rattle.catalog.proofs.ViewParts.{view-parts}
-use Rattle.cases.specs.Needs.{Flag, flagOf, Needed, Asked, Asks, ownConditions, More, NamesSet, NeedsRows, NeedsSigns, NeedsOf}
+use Rattle.cases.specs.Needs.{Flag, flagOf, Needed, Asked, Asks, ownConditions, More, setFlags, withRows, withSigns, withNeeds, NamesSet, NeedsRows, NeedsSigns, NeedsOf}
 use Rattle.cases.proofs.ViewKinds.{kind-own, kind-set}
-use Rattle.cases.proofs.FlagLaws.{more-same, more-more, more-all, more-set, flag-as, flag-low, flag-high, flag-set}
+use Rattle.cases.proofs.FlagLaws.{more-same, more-more, more-all, more-set, no-flag, flag-as, flag-low, flag-high, flag-set}
 
 -- ---- what one view needs
 
@@ -39,35 +40,80 @@ by-names : {m : ℕ} {frame is shape shape′ : List ℕ} → is ≡ namesIn fra
     → NamesSet m (names q) shape shape′
 by-names {m} {frame} {shape = shape} {shape′} n s q e = subst (λ (l : List ℕ). NamesSet m l shape shape′) (n ∙ view-parts q frame e .1) s
 
-pub rows-set : {frame is shape shape′ : List ℕ} {v : ℕ} → is ≡ namesIn frame → NamesSet 6 is shape shape′ → NeedsRows frame shape v shape′
-rows-set n s = record {
-  more = s .more;
-  for-rows = λ q e z h f. by-names n s q e .named z h;
-  for-sign = λ q e z h o f. by-names n s q e .named z h;
-  others = λ q e k h. by-names n s q e .others k h;
-}
+or-parts : (a b : Bool) → (a || b) ≡ false → (a ≡ false) × (b ≡ false)
+or-parts true b e = absurd (true≢false e)
+or-parts false b e = (refl, e)
 
-pub rows-kept : (frame shape : List ℕ) (v : ℕ) → (Needed shape v → ⊥) → (Asked shape v → 5 ≤ getD frame 0 0) → NeedsRows frame shape v shape
-rows-kept frame shape v n m = record {
-  more = more-same shape;
-  for-rows = λ q e z h f. absurd (n f);
-  for-sign = λ q e z h o f. absurd (omega (arith, m f, kind-own q e o));
-  others = λ q e k h. refl;
-}
+and-right : {a b : Bool} → a ≡ true → (a && b) ≡ false → b ≡ false
+and-right h e = rw h at e
 
-pub signs-set : {frame is shape shape′ : List ℕ} {v : ℕ} → is ≡ namesIn frame → NamesSet 7 is shape shape′ → NeedsSigns frame shape v shape′
-signs-set n s = record {
-  more = s .more;
-  for-sign = λ q e z h o f. by-names n s q e .named z h;
-  others = λ q e k h. by-names n s q e .others k h;
-}
+yes-flag : {m i : ℕ} {shape : List ℕ} {b : Bool} → b ≡ eqb (getD shape (8 * i + m) 0) 1 → Flag m shape i → b ≡ true
+yes-flag e f = e ∙ ap (λ k. eqb k 1) (f .on)
 
-pub signs-kept : (frame shape : List ℕ) (v : ℕ) → (Asked shape v → getD frame 0 0 < 5) → NeedsSigns frame shape v shape
-signs-kept frame shape v n = record {
-  more = more-same shape;
-  for-sign = λ q e z h o f. absurd (omega (arith, n f, kind-set q e o));
-  others = λ q e k h. refl;
-}
+-- by what the flags of view v and the kind of its frame say
+module _ {frame shape : List ℕ} {v : ℕ} {needed asked : Bool} (n : needed ≡ eqb (neededAt shape v) 1) (a : asked ≡ eqb (askedAt shape v) 1) where
+  rows-set : {is shape′ : List ℕ} → (needed || (asked && ltb (getD frame 0 0) 5)) ≡ true → is ≡ namesIn frame → NamesSet 6 is shape shape′
+      → NeedsRows frame shape v shape′
+  unfolding withRows
+  rows-set t e s = record {
+    here = rw (← n, ← a, t) (s .here ∙ ap (λ (l : List ℕ). setFlags 6 l shape) e);
+    more = s .more;
+    for-rows = λ q d z h f. by-names e s q d .named z h;
+    for-sign = λ q d z h o f. by-names e s q d .named z h;
+    others = λ q d k h. by-names e s q d .others k h;
+  }
+
+  rows-kept : (needed || (asked && ltb (getD frame 0 0) 5)) ≡ false → NeedsRows frame shape v shape
+  unfolding withRows
+  rows-kept t = record {
+    here = rw (← n, ← a, t);
+    more = more-same shape;
+    for-rows = λ q d z h f. absurd (no-flag n (or-parts needed _ t .0) f);
+    for-sign = λ q d z h o f.
+        absurd (true≢false (sym (lt-ltb (getD frame 0 0) 5 (kind-own q d o)) ∙ and-right (yes-flag a f) (or-parts needed _ t .1)));
+    others = λ q d k h. refl;
+  }
+
+  pub rows-needed : {is shape′ : List ℕ} → needed ≡ true → is ≡ namesIn frame → NamesSet 6 is shape shape′ → NeedsRows frame shape v shape′
+  rows-needed t = rows-set (rw t)
+
+  pub rows-asked : {is shape′ : List ℕ} → needed ≡ false → asked ≡ true → getD frame 0 0 < 5 → is ≡ namesIn frame → NamesSet 6 is shape shape′
+      → NeedsRows frame shape v shape′
+  rows-asked s t h = rows-set (rw (s, t) (lt-ltb (getD frame 0 0) 5 h))
+
+  pub rows-unasked : needed ≡ false → asked ≡ false → NeedsRows frame shape v shape
+  rows-unasked s t = rows-kept (rw (s, t))
+
+  pub rows-of-set : needed ≡ false → asked ≡ true → 5 ≤ getD frame 0 0 → NeedsRows frame shape v shape
+  rows-of-set s t h = rows-kept (rw (s, t) (le-ltb (getD frame 0 0) 5 h))
+
+module _ {frame shape : List ℕ} {v : ℕ} {asked : Bool} (a : asked ≡ eqb (askedAt shape v) 1) where
+  signs-set : {is shape′ : List ℕ} → (asked && leb 5 (getD frame 0 0)) ≡ true → is ≡ namesIn frame → NamesSet 7 is shape shape′ → NeedsSigns frame shape v shape′
+  unfolding withSigns
+  signs-set t e s = record {
+    here = rw (← a, t) (s .here ∙ ap (λ (l : List ℕ). setFlags 7 l shape) e);
+    more = s .more;
+    for-sign = λ q d z h o f. by-names e s q d .named z h;
+    others = λ q d k h. by-names e s q d .others k h;
+  }
+
+  signs-kept : (asked && leb 5 (getD frame 0 0)) ≡ false → NeedsSigns frame shape v shape
+  unfolding withSigns
+  signs-kept t = record {
+    here = rw (← a, t);
+    more = more-same shape;
+    for-sign = λ q d z h o f. absurd (true≢false (sym (le-leb 5 (getD frame 0 0) (kind-set q d o)) ∙ and-right (yes-flag a f) t));
+    others = λ q d k h. refl;
+  }
+
+  pub signs-asked : {is shape′ : List ℕ} → asked ≡ true → 5 ≤ getD frame 0 0 → is ≡ namesIn frame → NamesSet 7 is shape shape′ → NeedsSigns frame shape v shape′
+  signs-asked t h = signs-set (rw t (le-leb 5 (getD frame 0 0) h))
+
+  pub signs-unasked : asked ≡ false → NeedsSigns frame shape v shape
+  signs-unasked t = signs-kept (rw t)
+
+  pub signs-of-own : asked ≡ true → getD frame 0 0 < 5 → NeedsSigns frame shape v shape
+  signs-of-own t h = signs-kept (rw t (lt-leb 5 (getD frame 0 0) h))
 
 -- ---- all views, from the last down to relation v
 
@@ -77,6 +123,8 @@ pub record From (F : File) (v : ℕ) (shape : List ℕ) : Type 0 where
 
 -- the flags at first, and as they are
 pub record Reached (source : Source) (v : ℕ) (shape : List ℕ) : Type 0 where
+  pub here : let o = source .outline in
+      withNeeds (source .bytes) (o .tables) (v - o .tables) shape ≡ withNeeds (source .bytes) (o .tables) (o .relations - o .tables) (source .shape)
   pub more : More (source .shape) shape
   pub from : {F : File} {ends : List ℤ} → FileIn F source ends → From F v shape
 
@@ -100,6 +148,7 @@ earlier-of F l = stacked F (rules F (legal-wellFormed F l) .earlier-views)
 
 pub reached-none : (source : Source) → Reached source (source .outline .relations) (source .shape)
 reached-none source = record {
+  here = refl;
   more = more-same (source .shape);
   from = λ {F} G.
       let past : (u : ℕ) (q : View) → source .outline .relations ≤ u → query (length (F .tables)) F u ≡ some q → ⊥ =
@@ -162,8 +211,24 @@ module _ {source : Source} {v : ℕ} {shape shape₁ shape₂ frame : List ℕ} 
         let here : query T F (v - 1) ≡ some q₀ = by-lt (v - 1) T (λ t k. absurd (omega (arith, h, G₀ .tables))) (λ t k. rw t is) in
         turn-of q₀ here
 
+  -- view v - 1 is the last that is left
+  needs-left : withNeeds (source .bytes) (source .outline .tables) (v - 1 - source .outline .tables) shape₂
+      ≡ withNeeds (source .bytes) (source .outline .tables) (v - source .outline .tables) shape
+  unfolding withNeeds
+  needs-left =
+      let t = source .outline .tables in
+      let n = v - 1 - t in
+      let s : v - t ≡ suc n = omega arith in
+      let u : v - 1 ≡ t + n = omega arith in
+      let b = source .bytes in
+      let both : (f : List ℕ) (w : ℕ) → List ℕ = λ f w. withSigns f (withRows f shape w) w in
+      let done : shape₂ ≡ both (frameIn b shape (t + n)) (t + n) =
+      y .here ∙ ap (λ l. withSigns frame l (v - 1)) (x .here) ∙ ap₂ both (place ∙ ap (frameIn b shape) u) u in
+      ap (withNeeds b t n) done ∙ ap (λ k. withNeeds b t k shape) (sym s)
+
   pub reached-next : Reached source (v - 1) shape₂
   reached-next = record {
+    here = needs-left ∙ r .here;
     more = more-more (r .more) (more-more (x .more) (y .more));
     from = λ G₀. turn G₀;
   }
@@ -171,7 +236,12 @@ module _ {source : Source} {v : ℕ} {shape shape₁ shape₂ frame : List ℕ} 
 -- the goal's own flag first
 pub needs-all : {source : Source} {g : GoalHere} {v : ℕ} {shape₁ shape : List ℕ} → shape₁ ≡ set (source .shape) (8 * g .view + flagOf (g .negative)) 1
     → v ≤ source .outline .tables → Reached (withFlags source shape₁) v shape → NeedsOf source g shape
+unfolding withNeeds
 needs-all {source} {g} {v} {shape₁} {shape} e h r = record {
+  here =
+      let o = source .outline in
+      let z : v - o .tables ≡ 0 = omega arith in
+      sym (ap (λ k. withNeeds (source .bytes) (o .tables) k shape) z) ∙ r .here ∙ ap (withNeeds (source .bytes) (o .tables) (o .relations - o .tables)) e;
   more = more-more goal (r .more);
   covers = λ {F} G W.
       let f = r .from (file-kept G (goal .first)) in

@@ -1,19 +1,21 @@
 -- Relations that a goal depends on, by flags in `shape`: 1 is set. Assumes nothing: these are definitions.
 use mathlib.Core.Path.{_≡_}
 use mathlib.Core.Logic.{_⊎_}
-use mathlib.Core.Bool.{Bool, true, false, cond}
-use mathlib.Core.List.{List}
+use mathlib.Core.Bool.{Bool, true, false, _&&_, _||_, cond}
+use mathlib.Core.List.{List, [], _∷_}
 use mathlib.Core.Option.{some}
-use Prim.Native.Nat.{ℕ, _+_, _<_}
+use Prim.Native.Nat.{ℕ, zero, suc, _+_, _-_, _<_}
+use lib.Dec.{eqb, ltb, leb}
 use lib.IntN.{ℤ}
-use lib.ListN.{length, getD}
+use lib.ListN.{length, getD, set}
 use Rattle.value.specs.Bag.{All}
 use Rattle.meaning.specs.Syntax.{View, Goal, File}
 use Rattle.meaning.specs.Algebra.{query}
 use Rattle.meaning.specs.Bounds.{names}
 use Rattle.language.specs.Legal.{NamesView}
 use Rattle.language.specs.Written.{viewBytes}
-use Rattle.catalog.specs.Arrays.{entry, FirstKept}
+use Rattle.catalog.specs.Arrays.{entry, neededAt, askedAt, FirstKept}
+use Rattle.catalog.specs.Frames.{frameIn, namesIn}
 use Rattle.catalog.specs.FileIn.{Source, FileIn, goalOf}
 use Rattle.catalog.specs.declared.plan.Goal.{Goal as GoalHere}
 
@@ -66,7 +68,28 @@ pub record More (shape shape′ : List ℕ) : Type 0 where
   pub kept : (m i : ℕ) → Flag m shape i → Flag m shape′ i
   pub byte : (k : ℕ) → (getD shape′ k 0 ≡ getD shape k 0) ⊎ (getD shape′ k 0 ≡ 1)
 
+-- byte m of each relation that is named is set, one after the other
+unfoldable pub setFlags : ℕ → List ℕ → List ℕ → List ℕ
+setFlags m [] shape = shape
+setFlags m (i ∷ is) shape = setFlags m is (set shape (entry i + m) 1)
+
+-- the rows of what view v names are needed: its own are, or it is no set view and its sign is asked
+unfoldable pub withRows : List ℕ → List ℕ → ℕ → List ℕ
+withRows frame shape v =
+    cond (eqb (neededAt shape v) 1 || (eqb (askedAt shape v) 1 && ltb (getD frame 0 0) 5)) (setFlags 6 (namesIn frame) shape) shape
+
+-- the signs of what view v names are asked: it is a set view, and its own is asked
+unfoldable pub withSigns : List ℕ → List ℕ → ℕ → List ℕ
+withSigns frame shape v = cond (eqb (askedAt shape v) 1 && leb 5 (getD frame 0 0)) (setFlags 7 (namesIn frame) shape) shape
+
+-- both, for n views from relation t on, from the last down
+unfoldable pub withNeeds : List ℕ → ℕ → ℕ → List ℕ → List ℕ
+withNeeds bytes t zero shape = shape
+withNeeds bytes t (suc n) shape =
+    let frame = frameIn bytes shape (t + n) in withNeeds bytes t n (withSigns frame (withRows frame shape (t + n)) (t + n))
+
 pub record NamesSet (m : ℕ) (is shape shape′ : List ℕ) : Type 0 where
+  pub here : shape′ ≡ setFlags m is shape
   pub more : More shape shape′
   pub named : length shape ≡ 128 → All (λ i. i < 16) is → All (Flag m shape′) is
   -- and none but these
@@ -79,6 +102,7 @@ pub record AllSet (n : ℕ) (shape shape′ : List ℕ) : Type 0 where
   pub others : (k : ℕ) → ((asked : Bool) (i : ℕ) → i < n → k ≡ entry i + flagOf asked → ⊥) → getD shape′ k 0 ≡ getD shape k 0
 
 pub record NeedsRows (frame shape : List ℕ) (v : ℕ) (shape′ : List ℕ) : Type 0 where
+  pub here : shape′ ≡ withRows frame shape v
   pub more : More shape shape′
   pub for-rows : (q : View) → frame ≡ viewBytes q → length shape ≡ 128 → All (λ i. i < 16) (names q) → Needed shape v → All (Needed shape′) (names q)
   pub for-sign : (q : View) → frame ≡ viewBytes q → length shape ≡ 128 → All (λ i. i < 16) (names q) → ownConditions q ≡ true → Asked shape v
@@ -86,13 +110,16 @@ pub record NeedsRows (frame shape : List ℕ) (v : ℕ) (shape′ : List ℕ) : 
   pub others : (q : View) → frame ≡ viewBytes q → (k : ℕ) → All (λ j. k ≡ entry j + 6 → ⊥) (names q) → getD shape′ k 0 ≡ getD shape k 0
 
 pub record NeedsSigns (frame shape : List ℕ) (v : ℕ) (shape′ : List ℕ) : Type 0 where
+  pub here : shape′ ≡ withSigns frame shape v
   pub more : More shape shape′
   pub for-sign : (q : View) → frame ≡ viewBytes q → length shape ≡ 128 → All (λ i. i < 16) (names q) → ownConditions q ≡ false → Asked shape v
       → All (Asked shape′) (names q)
   pub others : (q : View) → frame ≡ viewBytes q → (k : ℕ) → All (λ j. k ≡ entry j + 7 → ⊥) (names q) → getD shape′ k 0 ≡ getD shape k 0
 
--- every byte that is no flag stays, so that the file stays in memory. Which flags are set beside those that the goal depends on is left
--- open: more of them only add views that are worked out
+-- which flags are set, of any bytes and arrays; that they are those that the goal depends on, of a file in memory. Every byte that is no flag
+-- stays, so that the file stays in memory
 pub record NeedsOf (source : Source) (g : GoalHere) (shape′ : List ℕ) : Type 0 where
+  pub here : let o = source .outline in
+      shape′ ≡ withNeeds (source .bytes) (o .tables) (o .relations - o .tables) (set (source .shape) (entry (g .view) + flagOf (g .negative)) 1)
   pub more : More (source .shape) shape′
   pub covers : {F : File} {ends : List ℤ} → FileIn F source ends → GoalIn F (goalOf g) → Covers F (goalOf g) shape′

@@ -79,8 +79,8 @@ fn need_signs(frame: &[u8], shape: &mut [u8], v: u8)
     set_names(names, shape, true);
 }
 
-// The flags of all relations that the goal depends on are set, from the last relation down. That none is left out is said of a file in memory;
-// that only flags change, of every input.
+// The flags of all relations that the goal depends on are set, from the last relation down. Which flags these are is said of every input; that
+// none is left out, of a file in memory.
 // Refused: the goal alone; what the first relation names for each.
 pub fn needs_of(bytes: &[u8], shape: &mut [u8], o: Outline, goal: Goal)
     ensures { λ _. ⌜ NeedsOf (sourceFrom (now (bytes .entry)) (now (shape .entry)) o) goal (now (shape .exit)) ⌝ }

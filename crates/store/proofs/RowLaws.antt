@@ -1,5 +1,5 @@
 -- Laws on the rows of relations in the work area of a look: those of `StrideLaws` at its sizes; and rows by value. Assumes nothing.
-use mathlib.Core.Path.{_≡_, refl, _∙_}
+use mathlib.Core.Path.{_≡_, refl, sym, ap, _∙_}
 use mathlib.Core.List.{List, [], _∷_, _++_, map}
 use Prim.Native.Nat.{ℕ, zero, suc, _+_, _≤_, _<_}
 use native.Mathlib.Numerals.{add-one}
@@ -10,13 +10,14 @@ use borrow.Author.Tests.{lt-ltb, le-ltb}
 use Rattle.value.specs.Value.{Value}
 use Rattle.value.specs.Machine.{valueOf}
 use Rattle.value.specs.declared.datum.Datum.{Datum}
+use Rattle.value.proofs.Decides.{by-test}
 use Rattle.value.proofs.Places.{getD-all}
 use Rattle.meaning.specs.Syntax.{Row}
 use Rattle.meaning.specs.Evaluation.{missing}
 use Rattle.meaning.proofs.ListSteps.{map-at}
 use Rattle.store.specs.Strides
 use Rattle.store.specs.Layout.{sizes, cellIn, putCell, relationLimit, rowLimit, columnLimit, area, OnlyCells}
-use Rattle.store.specs.Rows.{listed, rowIn, rowsIn, putCells, putRow, rowOf, withValue}
+use Rattle.store.specs.Rows.{listed, rowIn, rowsIn, putCells, room, putRow, rowOf, withValue}
 use Rattle.store.specs.declared.Row.{Row as Values}
 use Rattle.store.proofs.Listed.{listed-same, length-listed, getD-listed, set-last, set-listed, drop-set, map-set}
 use Rattle.store.proofs.StrideLaws
@@ -54,6 +55,13 @@ cell-of-rows work r w n i c hi hc = rw (row-of-rows work r w n i hi) (cell-of-ro
 
 pub put-length : (work : List ℤ) (r i w : ℕ) (row : Row) → length (putRow work r i w row) ≡ length work
 put-length = StrideLaws.put-length sizes
+
+-- a row is looked at only where there is room for it
+pub put-read : (work : List ℤ) (r i w : ℕ) (row row′ : Row) → (w ≤ columnLimit → row ≡ row′) → putRow work r i w row ≡ putRow work r i w row′
+put-read work r i w row row′ h =
+    by-test (room work r i w)
+    (λ e. ap (putRow work r i w) (h (StrideLaws.room-limits sizes work r i w e .2)))
+    (λ e. StrideLaws.put-none sizes work r i w row e ∙ sym (StrideLaws.put-none sizes work r i w row′ e))
 
 -- every other relation keeps its rows
 pub put-other : (work : List ℤ) (r i w : ℕ) (row : Row) (r′ w′ n′ : ℕ) → (r′ ≡ r → ⊥) → rowsIn (putRow work r i w row) r′ w′ n′ ≡ rowsIn work r′ w′ n′

@@ -3,6 +3,7 @@ use mathlib.Core.Path.{_≡_, refl, sym, ap, ap₂, _∙_}
 use mathlib.Core.Bool.{Bool, true, false, _&&_, cond, and-false}
 use mathlib.Core.List.{List, [], _∷_, _++_, append-nil}
 use Prim.Native.Nat.{ℕ, zero, suc, _+_, _≤_, _<_}
+use native.Mathlib.Numerals.{add-one}
 use native.Mathlib.Omega.{arith}
 use lib.Dec.{ltb, eqb}
 use lib.IntN.{ℤ}
@@ -20,8 +21,8 @@ use Rattle.store.specs.Layout.{columnLimit, cellIn}
 use Rattle.store.specs.Rows.{listed, rowIn, rowsIn, putRow, rowOf}
 use Rattle.store.specs.declared.Row.{Row as Values}
 use Rattle.store.proofs.Listed.{length-listed}
-use Rattle.store.proofs.RowLaws.{rows-none, rows-more, row-of-length, put-grows}
-use Rattle.views.specs.Copies.{Fits, Appended, Intersection}
+use Rattle.store.proofs.RowLaws.{rows-none, rows-more, row-length, put-read, put-grows}
+use Rattle.views.specs.Copies.{Fits, Appended, KeptRows, keptNext, keptRows, Intersection}
 use Rattle.views.proofs.Copying.{apart-same, apart-more, apart-put, apart-rows, row-kept}
 
 -- ---- rows that are the same
@@ -86,8 +87,8 @@ count-more work b w n k one r e f =
 
 pub appended : {keep : Bool} {work work′ : List ℤ} {source i to at w : ℕ} (row : Values) → keep ≡ true → (w ≤ columnLimit → rowOf row w ≡ rowIn work source w i)
     → work′ ≡ putRow work to at w (rowOf row w) → Appended keep work source i to at w (at + 1) work′
-appended {keep} row k r p = record {
-  yes = λ _. (row, r, p, refl);
+appended {keep} {work} {source = source} {i} {to} {at} {w} row k r p = record {
+  yes = λ _. (p ∙ put-read work to at w (rowOf row w) (rowIn work source w i) r, refl);
   no = λ n. let both : true ≡ false = sym k ∙ n in let z : _≡_ {A = ℕ} 0 1 = cc in absurd (omega arith);
 }
 
@@ -98,8 +99,9 @@ left-out {keep} k = record {
 }
 
 pub shared-none : (work : List ℤ) (left right n to w : ℕ) → Intersection work left 0 right n to w 0 work
+unfolding keptRows
 shared-none work left right n to w =
-    record { apart = apart-same to work; few = omega arith; rows = λ p q f. rw (rows-none work to w, rows-none work left w) }
+    record { here = refl; apart = apart-same to work; few = omega arith; rows = λ p q f. rw (rows-none work to w, rows-none work left w) }
 
 module _ {work now : List ℤ} {left i right n to w kept before there : ℕ} (s : Intersection work left i right n to w kept now)
     (x : before ≡ count rowTest (rowIn now left w i) (rowsIn now left w i)) (y : there ≡ count rowTest (rowIn now left w i) (rowsIn now right w n)) where
@@ -116,6 +118,17 @@ module _ {work now : List ℤ} {left i right n to w kept before there : ℕ} (s 
       ∙ common-snoc rowTest (rowsIn work left w i) (rowIn work left w i) (rowsIn work right w n)
       ∙ ap₂ (λ u v. common rowTest (rowsIn work left w i) (rowsIn work right w n) ++ cond (ltb u v) (rowIn work left w i ∷ []) []) (sym b) (sym t)
 
+  abbrev told : List ℤ → ℕ → KeptRows
+  told l k = record { work = l; kept = k }
+
+  -- the test that row i is kept
+  test : (b : Bool) → ltb before there ≡ b → ltb (count rowTest (rowIn now left w i) (rowsIn now left w i)) (count rowTest (rowIn now left w i) (rowsIn now right w n)) ≡ b
+  test b t = ap₂ ltb (sym x) (sym y) ∙ t
+
+  here-next : (k : KeptRows) → keptNext left right n to w i (told now kept) ≡ k → k ≡ keptRows work left (i + 1) right n to w
+  unfolding keptRows
+  here-next k e = rw (add-one i) (sym e ∙ ap (keptNext left right n to w i) (s .here))
+
   pub shared-more : {after : List ℤ} {next : ℕ} → Appended (ltb before there) now left i to kept w next after → Intersection work left (i + 1) right n to w next after
   shared-more {after} {next} a = by-test (ltb before there) taken passed
     where
@@ -124,15 +137,17 @@ module _ {work now : List ℤ} {left i right n to w kept before there : ℕ} (s 
 
       taken : ltb before there ≡ true → Intersection work left (i + 1) right n to w next after
       taken t =
-          let (row, read, put, count-is) = a .yes t in
+          let (put, count-is) = a .yes t in
+          let row = rowIn now left w i in
           record {
-            apart = rw put (apart-more (s .apart) (apart-put now to kept w (rowOf row w)));
+            here = ap₂ told put count-is ∙ here-next (told (putRow now to kept w row) (kept + 1)) (rw (test true t));
+            apart = rw put (apart-more (s .apart) (apart-put now to kept w row));
             few = omega (arith, s .few, count-is);
             rows = λ p q f.
                 let k : next ≡ suc kept = omega (arith, count-is) in
                 ap₂ (λ l j. rowsIn l to w j) put k
-                ∙ put-grows now to kept w (rowOf row w) (f .relation) (omega (arith, f .rows, s .few)) (f .columns) (omega (arith, f .whole, s .apart .size)) (row-of-length row w)
-                ∙ ap₂ (λ (u : List Row) (v : Row). u ++ (v ∷ [])) (s .rows p q (less f)) (read (f .columns) ∙ row-kept work now left to w i (s .apart) p)
+                ∙ put-grows now to kept w row (f .relation) (omega (arith, f .rows, s .few)) (f .columns) (omega (arith, f .whole, s .apart .size)) (row-length now left w i)
+                ∙ ap₂ (λ (u : List Row) (v : Row). u ++ (v ∷ [])) (s .rows p q (less f)) (row-kept work now left to w i (s .apart) p)
                 ∙ sym (step-common p q ∙ ap (λ c. common rowTest (rowsIn work left w i) (rowsIn work right w n) ++ cond c (rowIn work left w i ∷ []) []) t);
           }
 
@@ -140,6 +155,7 @@ module _ {work now : List ℤ} {left i right n to w kept before there : ℕ} (s 
       passed t =
           let (same, count-is) = a .no t in
           record {
+            here = ap₂ told same count-is ∙ here-next (told now kept) (rw (test false t));
             apart = rw same (s .apart);
             few = omega (arith, s .few, count-is);
             rows = λ p q f.

@@ -37,8 +37,8 @@ fn copy(work: &mut [i32], source: u8, count: u8, to: u8, at: u8, width: u8)
     }
 }
 
-// m rows of the left, and behind them n rows of the right. Open are the target's rows where it is the left or the right, or has no room for
-// them; only its cells change. Nobody sees it: a view of a file that was accepted comes behind what it names, and has room.
+// m rows of the left, and behind them n rows of the right. What the work area then holds is said of every input; which rows these are, where
+// the target is neither and has room for them, as a view of a file that was accepted is and has.
 // Refused: the right's rows for the left's; the right's rows over the left's.
 pub fn union(work: &mut [i32], left: u8, m: u8, right: u8, n: u8, to: u8, width: u8)
     ensures { λ _. ⌜ Union (now (work .entry)) left m right n to width (now (work .exit)) ⌝ }
@@ -90,8 +90,7 @@ fn append(work: &mut [i32], keep: bool, source: u8, i: u8, to: u8, at: u8, width
     at
 }
 
-// The earliest of m rows of the left, each as often as in both, and their number, which is at most m. Open is the same as of `union`, and
-// nobody sees it.
+// The earliest of m rows of the left, each as often as in both, and their number, which is at most m. Nothing is open, as of `union`.
 // Refused: each row that the right has; a row once only, as in a set.
 pub fn intersection(work: &mut [i32], left: u8, m: u8, right: u8, n: u8, to: u8, width: u8) -> u8
     ensures { λ kept. ⌜ Intersection (now (work .entry)) left m right n to width kept (now (work .exit)) ⌝ }

@@ -1,9 +1,9 @@
 -- `cases::needs::need_rows` meets its contract. Assumes nothing.
+use mathlib.Core.Path.{refl}
 use native.Mathlib.Omega.{arith}
-use borrow.Author.Tests.{not-true}
+use borrow.Author.Tests.{not-true, not-false}
 use borrow.Author.Needs.{needs}
-use Rattle.cases.proofs.FlagLaws.{no-flag}
-use Rattle.cases.proofs.NeedLaws.{rows-set, rows-kept}
+use Rattle.cases.proofs.NeedLaws.{rows-needed, rows-asked, rows-unasked, rows-of-set}
 use Rattle.cases.proofs.needs.need_rows.Statement.{statement}
 use Rattle.cases.proofs.needs.need_rows.Tie as tie
 
@@ -20,7 +20,7 @@ same-length : tie.Need-same-length
 same-length c = search needs
 
 returns : tie.Need-returns
-returns c = rows-set (c .before .before .before .before .before .before .before .names .ensures) (c .before .before .set-names .ensures)
+returns c = rows-needed (c .before .before .before .before .before .is-needed .ensures) refl (c .before .before .before .before .if1 .taken) (c .before .before .before .before .before .before .before .names .ensures) (c .before .before .set-names .ensures)
 
 is-asked-requires : tie.Need-is-asked-requires
 is-asked-requires c κs = search needs
@@ -29,8 +29,8 @@ same-length-2 : tie.Need-same-length-2
 same-length-2 c = search needs
 
 returns-2 : tie.Need-returns-2
-returns-2 c = rows-kept _ _ _ (no-flag (c .before .before .before .before .is-needed .ensures) (c .before .before .before .if1 .left)) (λ f. absurd (no-flag
-    (c .before .is-asked .ensures) (not-true (c .before .is-asked .result) (c .if2 .taken)) f))
+returns-2 c = rows-unasked (c .before .before .before .before .is-needed .ensures) (c .before .is-asked .ensures) (c .before .before .before .if1 .left)
+    (not-true (c .before .is-asked .result) (c .if2 .taken))
 
 byte-at-requires : tie.Need-byte-at-requires
 byte-at-requires c κs = search needs
@@ -39,8 +39,9 @@ same-length-3 : tie.Need-same-length-3
 same-length-3 c = search needs
 
 returns-3 : tie.Need-returns-3
-returns-3 c = rows-kept _ _ _ (no-flag (c .before .before .before .before .before .before .is-needed .ensures) (c .before .before .before .before .before .if1 .left))
-    (λ f. omega (arith, c .before .byte-at .ensures, c .if3 .taken))
+returns-3 c = rows-of-set (c .before .before .before .before .before .before .is-needed .ensures) (c .before .before .before .is-asked .ensures)
+    (c .before .before .before .before .before .if1 .left) (not-false (c .before .before .before .is-asked .result) (c .before .before .if2 .left))
+    (omega (arith, c .before .byte-at .ensures, c .if3 .taken))
 
 set-names-requires-2 : tie.Need-set-names-requires-2
 set-names-requires-2 c κs = search needs
@@ -49,7 +50,9 @@ same-length-4 : tie.Need-same-length-4
 same-length-4 c = search needs
 
 returns-4 : tie.Need-returns-4
-returns-4 c = rows-set (c .before .before .before .before .before .before .before .before .before .before .before .before .names .ensures) (c .before .before .set-names2 .ensures)
+returns-4 c = rows-asked (c .before .before .before .before .before .before .before .before .before .before .is-needed .ensures) (c .before .before .before .before .before .before .before .is-asked .ensures)
+    (c .before .before .before .before .before .before .before .before .before .if1 .left) (not-false (c .before .before .before .before .before .before .before .is-asked .result) (c .before .before .before .before .before .before .if2 .left))
+    (omega (arith, c .before .before .before .before .before .byte-at .ensures, c .before .before .before .before .if3 .left)) (c .before .before .before .before .before .before .before .before .before .before .before .before .names .ensures) (c .before .before .set-names2 .ensures)
 
 pub need-rows-spec : {M : Type 1} → statement M
 need-rows-spec =
