@@ -1,6 +1,6 @@
 -- Tests of the rows of a relation, one row more each time, and of two lists by index. Assumes nothing.
 use mathlib.Core.Path.{_≡_, refl, sym, ap, ap₂, _∙_}
-use mathlib.Core.Bool.{Bool, true, false, _&&_, _||_, and-false, or-true}
+use mathlib.Core.Bool.{Bool, true, false, _&&_, _||_, and-false, and-true, and-assoc, or-true}
 use mathlib.Core.List.{List, [], _∷_, _++_}
 use Prim.Native.Nat.{ℕ, zero, suc, _+_, _<_}
 use native.Mathlib.Numerals.{add-one}
@@ -87,56 +87,28 @@ module _ (work : List ℤ) (r w : ℕ) where
   any-rows p q e (suc n) =
       ap₂ (λ (a b : Bool). a || b) (any-rows p q e n) (e n) ∙ sym (ap (any q) (rows-more work r w n) ∙ any-snoc q (rowsIn work r w n) (rowIn work r w n))
 
-  module _ (p : Row → Bool) where
-    abbrev numbered : ℕ → Bool
-    numbered i = p (rowIn work r w i)
-
-    by-number : (n : ℕ) → allBelow numbered n ≡ all p (rowsIn work r w n)
-    by-number = all-rows numbered p (λ i. refl)
-
-    pub all-none : all p (rowsIn work r w 0) ≡ true
-    all-none = sym (by-number 0) ∙ all-below-none numbered
-
-    pub all-step : (n : ℕ) → all p (rowsIn work r w n) ≡ true → p (rowIn work r w n) ≡ true → all p (rowsIn work r w (n + 1)) ≡ true
-    all-step n e f = sym (by-number (n + 1)) ∙ all-below-next numbered n (by-number n ∙ e) f
-
-    -- one row that fails
-    pub all-stops : (n i : ℕ) → i < n → p (rowIn work r w i) ≡ false → all p (rowsIn work r w n) ≡ false
-    all-stops n i h f = sym (by-number n) ∙ all-below-stops numbered n i h f
-
-  pub pairwise-none : (p : Row → Row → Bool) → pairwise p (rowsIn work r w 0) ≡ true
-  pairwise-none p = ap (pairwise p) (rows-none work r w)
-
-  pairwise-next : (p : Row → Row → Bool) (n : ℕ)
-      → pairwise p (rowsIn work r w (suc n)) ≡ (pairwise p (rowsIn work r w n) && all (λ μ. p μ (rowIn work r w n)) (rowsIn work r w n))
-  pairwise-next p n = ap (pairwise p) (rows-more work r w n) ∙ pairwise-snoc p (rowsIn work r w n) (rowIn work r w n)
-
-  pub pairwise-step : (p : Row → Row → Bool) (n : ℕ) → pairwise p (rowsIn work r w n) ≡ true → all (λ μ. p μ (rowIn work r w n)) (rowsIn work r w n) ≡ true
-      → pairwise p (rowsIn work r w (n + 1)) ≡ true
-  pairwise-step p n e f = let s : n + 1 ≡ suc n = omega arith in rw s (pairwise-next p n ∙ rw (e, f))
-
-  -- one row that fails with an earlier one
-  pub pairwise-stops : (p : Row → Row → Bool) (n i : ℕ) → i < n → all (λ μ. p μ (rowIn work r w i)) (rowsIn work r w i) ≡ false
-      → pairwise p (rowsIn work r w n) ≡ false
-  pairwise-stops p zero i h f = absurd (omega arith)
-  pairwise-stops p (suc n) i h f = pairwise-next p n ∙ by-test (eqb i n)
-      (λ q. let z : i ≡ n = eqb-true i n q in
-      ap (λ b. pairwise p (rowsIn work r w n) && b) (ap (λ k. all (λ μ. p μ (rowIn work r w k)) (rowsIn work r w k)) (sym z) ∙ f)
-      ∙ and-false (pairwise p (rowsIn work r w n)))
-      (λ q. rw (pairwise-stops p n i (omega (arith, eqb-false i n q)) f))
+  -- each row with each earlier one
+  pub pairwise-rows : (p : Row → Row → Bool) (n : ℕ)
+      → allBelow (λ j. all (λ μ. p μ (rowIn work r w j)) (rowsIn work r w j)) n ≡ pairwise p (rowsIn work r w n)
+  unfolding allBelow
+  pairwise-rows p zero = sym (ap (pairwise p) (rows-none work r w))
+  pairwise-rows p (suc n) =
+      ap (λ b. b && all (λ μ. p μ (rowIn work r w n)) (rowsIn work r w n)) (pairwise-rows p n)
+      ∙ sym (ap (pairwise p) (rows-more work r w n) ∙ pairwise-snoc p (rowsIn work r w n) (rowIn work r w n))
 
 -- ---- two lists of one length, by index
 
-module _ {A B : Type 0} (p : A → B → Bool) (a : A) (b : B) where
-  pub each-holds : (xs : List A) (ys : List B) → length ys ≡ length xs → ((i : ℕ) → i < length xs → p (getD xs i a) (getD ys i b) ≡ true) → each p xs ys ≡ true
-  each-holds [] [] e h = refl
-  each-holds [] (y ∷ ys) e h = absurd (omega arith)
-  each-holds (x ∷ xs) [] e h = absurd (omega arith)
-  each-holds (x ∷ xs) (y ∷ ys) e h = rw (h 0 (omega arith)) (each-holds xs ys (omega arith) (λ i l. h (suc i) (omega arith)))
+all-below-first : (q : ℕ → Bool) (n : ℕ) → allBelow q (suc n) ≡ (q 0 && allBelow (λ i. q (suc i)) n)
+unfolding allBelow
+all-below-first q zero = sym (and-true (q 0))
+all-below-first q (suc n) = ap (λ b. b && q (suc n)) (all-below-first q n) ∙ and-assoc (q 0) (allBelow (λ i. q (suc i)) n) (q (suc n))
 
-  pub each-stops : (xs : List A) (ys : List B) → length ys ≡ length xs → (i : ℕ) → i < length xs → p (getD xs i a) (getD ys i b) ≡ false → each p xs ys ≡ false
-  each-stops [] [] e i h f = absurd (omega arith)
-  each-stops [] (y ∷ ys) e i h f = absurd (omega arith)
-  each-stops (x ∷ xs) [] e i h f = absurd (omega arith)
-  each-stops (x ∷ xs) (y ∷ ys) e zero h f = rw f
-  each-stops (x ∷ xs) (y ∷ ys) e (suc i) h f = ap (λ t. p x y && t) (each-stops xs ys (omega arith) i (omega arith) f) ∙ and-false (p x y)
+module _ {A B : Type 0} (p : A → B → Bool) (a : A) (b : B) where
+  pub all-each : (q : ℕ → Bool) (xs : List A) (ys : List B) → length ys ≡ length xs → ((i : ℕ) → i < length xs → q i ≡ p (getD xs i a) (getD ys i b))
+      → allBelow q (length xs) ≡ each p xs ys
+  all-each q [] [] e h = all-below-none q
+  all-each q [] (y ∷ ys) e h = absurd (omega arith)
+  all-each q (x ∷ xs) [] e h = absurd (omega arith)
+  all-each q (x ∷ xs) (y ∷ ys) e h =
+      all-below-first q (length xs)
+      ∙ ap₂ (λ (u v : Bool). u && v) (h 0 (omega arith)) (all-each (λ i. q (suc i)) xs ys (omega arith) (λ i l. h (suc i) (omega arith)))

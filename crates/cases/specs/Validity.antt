@@ -2,17 +2,16 @@
 use mathlib.Core.Path.{_≡_}
 use mathlib.Core.Bool.{Bool, true, false, _&&_, _||_}
 use mathlib.Core.List.{List}
-use Prim.Native.Nat.{ℕ, zero, suc, _+_, _<_}
-use lib.Dec.{ltb}
+use Prim.Native.Nat.{ℕ, zero, suc, _+_}
+use lib.Dec.{ltb, eqb}
 use lib.IntN.{ℤ}
 use lib.ListN.{length, getD}
 use Rattle.value.specs.Value.{valueTest}
-use Rattle.meaning.specs.Lists.{all, each}
-use Rattle.meaning.specs.Syntax.{Table, File, Database}
+use Rattle.meaning.specs.Lists.{all, pairwise}
+use Rattle.meaning.specs.Syntax.{File, Database}
 use Rattle.meaning.specs.Valid.{Shaped}
-use Rattle.meaning.specs.Decided.{differ, keyHolds, valid}
-use Rattle.language.specs.Legal.{tableAt}
-use Rattle.language.specs.Written.{maskOf}
+use Rattle.meaning.specs.Decided.{differ, valid}
+use Rattle.language.specs.Frames.{maskBits}
 use Rattle.catalog.specs.Arrays.{widthAt, maskAt}
 use Rattle.catalog.specs.FileIn.{Source, FileIn}
 use Rattle.catalog.specs.Frames.{frameAt, keyPartsIn}
@@ -21,26 +20,7 @@ use Rattle.store.specs.Layout.{cellIn}
 use Rattle.store.specs.Rows.{rowIn, rowsIn}
 use Rattle.cases.specs.TablesIn.{TablesIn}
 
--- ---- primary keys: of every key that the mask says
-
-pub record Differs (work : List ℤ) (table i j width mask : ℕ) (r : Bool) : Type 0 where
-  pub differs : (key : List Bool) → length key ≡ width → mask ≡ maskOf key → r ≡ differ key (rowIn work table width i) (rowIn work table width j)
-
-pub record DiffersFromEarlier (work : List ℤ) (table j width mask : ℕ) (r : Bool) : Type 0 where
-  pub differs : (key : List Bool) → length key ≡ width → mask ≡ maskOf key
-      → r ≡ all (λ μ. differ key μ (rowIn work table width j)) (rowsIn work table width j)
-
-pub record KeyHeld (work : List ℤ) (table rows width mask : ℕ) (r : Bool) : Type 0 where
-  pub holds : (t : Table) → length (t .key) ≡ width → mask ≡ maskOf (t .key) → r ≡ keyHolds t (rowsIn work table width rows)
-
-pub record KeysHeld (shape counts : List ℕ) (work : List ℤ) (tables : ℕ) (r : Bool) : Type 0 where
-  pub hold : (F : File) (d : Database) → length (F .tables) ≡ tables → length d ≡ tables
-      → ((t : ℕ) → t < tables → length (tableAt (F .tables) t .key) ≡ length (tableAt (F .tables) t .columns))
-      → ((t : ℕ) → t < tables → widthAt shape t ≡ length (tableAt (F .tables) t .columns))
-      → ((t : ℕ) → t < tables → maskAt shape t ≡ maskOf (tableAt (F .tables) t .key))
-      → TablesIn F d counts work → r ≡ each keyHolds (F .tables) d
-
--- ---- foreign keys: on any bytes, 0 past the end of a frame
+-- ---- tests of numbers
 
 -- a test of each number below n, and of some
 unfoldable pub allBelow : (ℕ → Bool) → ℕ → Bool
@@ -50,6 +30,29 @@ allBelow p (suc n) = allBelow p n && p n
 unfoldable pub anyBelow : (ℕ → Bool) → ℕ → Bool
 anyBelow p zero = false
 anyBelow p (suc n) = anyBelow p n || p n
+
+-- ---- primary keys: on any mask; 0 is no key, and bits behind the last column say nothing of a column
+
+-- two rows of a table differ in some column of the key
+abbrev pub differIn : List ℤ → ℕ → ℕ → ℕ → ℕ → ℕ → Bool
+differIn work table i j width mask = differ (maskBits width mask) (rowIn work table width i) (rowIn work table width j)
+
+-- row j differs from each row before it
+abbrev pub differsFromEarlierIn : List ℤ → ℕ → ℕ → ℕ → ℕ → Bool
+differsFromEarlierIn work table j width mask = all (λ μ. differ (maskBits width mask) μ (rowIn work table width j)) (rowsIn work table width j)
+
+-- there is no key, or each two rows differ
+unfoldable pub keyIn : List ℤ → ℕ → ℕ → ℕ → ℕ → Bool
+keyIn work table rows width mask = eqb mask 0 || pairwise (differ (maskBits width mask)) (rowsIn work table width rows)
+
+-- the key of table t, with its rows, columns and mask as the arrays say; and of each table
+unfoldable pub keyAt : List ℕ → List ℕ → List ℤ → ℕ → Bool
+keyAt shape counts work t = keyIn work t (getD counts t 0) (widthAt shape t) (maskAt shape t)
+
+abbrev pub keysIn : List ℕ → List ℕ → List ℤ → ℕ → Bool
+keysIn shape counts work tables = allBelow (keyAt shape counts work) tables
+
+-- ---- foreign keys: on any bytes, 0 past the end of a frame
 
 -- n things stand one behind the other from a place on, and each passes a test; false where the bytes end before one of them
 unfoldable pub allFrom : List ℕ → (ℕ → Bool) → (ℕ → ℕ) → ℕ → ℕ → Bool
@@ -82,6 +85,9 @@ foreignKeysIn bytes at keys counts work =
 
 -- ---- the whole
 
+-- on any arrays, and what it says of a file and a database
 pub record IsValid (source : Source) (counts : List ℕ) (work : List ℤ) (r : Bool) : Type 0 where
+  pub here : r ≡ (keysIn (source .shape) counts work (source .outline .tables)
+      && foreignKeysIn (source .bytes) (source .outline .foreign) (source .outline .keys) counts work)
   pub is-valid : {F : File} {d : Database} {ends : List ℤ} → FileIn F source ends → Shaped F d → TablesIn F d counts work
       → r ≡ valid F d

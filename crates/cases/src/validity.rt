@@ -1,15 +1,16 @@
-// Whether a database is valid: primary keys and foreign keys. Its values lie in their columns' ranges as a candidate's do.
+// Whether a database is valid: primary keys and foreign keys. Its values lie in their columns' ranges as a candidate's do. Every answer is an
+// equation on all inputs: nothing is open.
 use catalog::arrays;
 use catalog::frames;
 use catalog::frames::KeyParts;
 use catalog::outline::Outline;
 ghost use mathlib.Core.Path.{_≡_};
 ghost use Rattle.catalog.specs.FileIn.{sourceFrom};
-ghost use Rattle.cases.specs.Validity.{Differs, DiffersFromEarlier, KeyHeld, KeysHeld, agreesIn, hasParentIn, foreignKeyIn, foreignKeysIn, IsValid};
+ghost use Rattle.cases.specs.Validity.{differIn, differsFromEarlierIn, keyIn, keysIn, agreesIn, hasParentIn, foreignKeyIn, foreignKeysIn, IsValid};
 
 // Whether two rows of a table differ in some column of the key.
 fn differ(work: &[i32], table: u8, i: u8, j: u8, width: u8, mask: u8) -> bool
-    ensures { λ r. ⌜ Differs (now (work .entry)) table i j width mask r ⌝ }
+    ensures { λ r. ⌜ r ≡ differIn (now (work .entry)) table i j width mask ⌝ }
 {
     let mut left = mask;
     let mut c: u8 = 0;
@@ -27,7 +28,7 @@ fn differ(work: &[i32], table: u8, i: u8, j: u8, width: u8, mask: u8) -> bool
 
 // Whether row j differs from each row before it.
 fn differs_from_earlier(work: &[i32], table: u8, j: u8, width: u8, mask: u8) -> bool
-    ensures { λ r. ⌜ DiffersFromEarlier (now (work .entry)) table j width mask r ⌝ }
+    ensures { λ r. ⌜ r ≡ differsFromEarlierIn (now (work .entry)) table j width mask ⌝ }
 {
     let mut i: u8 = 0;
     while i < j {
@@ -41,7 +42,7 @@ fn differs_from_earlier(work: &[i32], table: u8, j: u8, width: u8, mask: u8) -> 
 
 // Whether each two rows of a table differ in some column of its key, if it has one.
 fn key_holds(work: &[i32], table: u8, rows: u8, width: u8, mask: u8) -> bool
-    ensures { λ r. ⌜ KeyHeld (now (work .entry)) table rows width mask r ⌝ }
+    ensures { λ r. ⌜ r ≡ keyIn (now (work .entry)) table rows width mask ⌝ }
 {
     if mask == 0 {
         return true;
@@ -59,7 +60,7 @@ fn key_holds(work: &[i32], table: u8, rows: u8, width: u8, mask: u8) -> bool
 // Whether the key of each table holds.
 // Refused: the first table's key for each; the first table's columns for each.
 fn keys_hold(shape: &[u8], counts: &[u8], work: &[i32], tables: u8) -> bool
-    ensures { λ r. ⌜ KeysHeld (now (shape .entry)) (now (counts .entry)) (now (work .entry)) tables r ⌝ }
+    ensures { λ r. ⌜ r ≡ keysIn (now (shape .entry)) (now (counts .entry)) (now (work .entry)) tables ⌝ }
 {
     let mut t: u8 = 0;
     while t < tables {
@@ -153,8 +154,8 @@ fn foreign_keys_hold(bytes: &[u8], at: usize, keys: u8, counts: &[u8], work: &[i
     true
 }
 
-// Whether each key and each foreign key holds. Of arrays and rows that are of no file and no database of it the answer is open: a plan is of
-// a file, and what a search or a caller puts in the work area is a database.
+// Whether each key and each foreign key holds: an equation on any input. What it means is said of a file and a database of it: whether the
+// database is valid.
 // Refused: primary keys alone; foreign keys alone.
 pub fn is_valid(bytes: &[u8], shape: &[u8], o: Outline, counts: &[u8], work: &[i32]) -> bool
     ensures { λ r. ⌜ IsValid (sourceFrom (now (bytes .entry)) (now (shape .entry)) o) (now (counts .entry)) (now (work .entry)) r ⌝ }

@@ -16,7 +16,7 @@ abbrev μ-loop : tie.MeasureT-loop
 μ-loop work table i j width mask left₀ c₀ left c = width - c
 
 loop-holds : tie.Need-loop-holds Inv-loop μ-loop
-loop-holds c = (omega arith, rest-first _ _ _ _ _ _)
+loop-holds c = (omega arith, rest-first)
 
 cast-cell : tie.Need-cast-cell Inv-loop μ-loop
 cast-cell c = search needs
@@ -34,7 +34,7 @@ same-requires : tie.Need-same-requires Inv-loop μ-loop
 same-requires c κs = search needs
 
 returns : tie.Need-returns Inv-loop μ-loop
-returns c = rest-stops _ _ _ _ _ _ (c .before .before .before .before .before .before .loop .inv .1) (c .before .before .before .before .before .loop-test .taken)
+returns c = rest-stops (c .before .before .before .before .before .before .loop .inv .1) (c .before .before .before .before .before .loop-test .taken)
     (c .before .before .before .before .cell .ensures) (c .before .before .before .cell2 .ensures) (c .before .before .if1 .taken) (sym (c .before .same .ensures) ∙ not-true _ (c .if2 .taken))
 
 add-c : tie.Need-add-c Inv-loop μ-loop
@@ -46,13 +46,13 @@ loop-less c = omega arith
 loop-again : tie.Need-loop-again Inv-loop μ-loop
 loop-again c = (
   omega arith,
-  ⊎-elim (λ u. rest-same _ _ _ _ _ _ (c .before .before .before .before .loop .inv .1) (c .before .before .before .loop-test .taken) (c .before .before .cell .ensures)
-      (c .before .cell2 .ensures) (sym (u .1 .ensures) ∙ not-false _ (u .2 .left))) (λ u. rest-unmarked _ _ _ _ _ _ (c .before .before .before .before .loop .inv .1)
+  ⊎-elim (λ u. rest-same (c .before .before .before .before .loop .inv .1) (c .before .before .before .loop-test .taken) (c .before .before .cell .ensures)
+      (c .before .cell2 .ensures) (sym (u .1 .ensures) ∙ not-false _ (u .2 .left))) (λ u. rest-unmarked (c .before .before .before .before .loop .inv .1)
       (c .before .before .before .loop-test .taken) (c .before .before .cell .ensures) (c .before .cell2 .ensures) (u .left)) (c .if1 .came),
 )
 
 returns-2 : tie.Need-returns-2 Inv-loop μ-loop
-returns-2 c = rest-none _ _ _ _ _ _ (omega arith) (c .before .loop .inv .1)
+returns-2 c = rest-none (omega arith) (c .before .loop .inv .1)
 
 pub differ-spec : {M : Type 1} → statement M
 differ-spec =
