@@ -129,7 +129,7 @@ module _ (text : List ℕ) (count : ℕ) (work inst : List ℤ) (x : Answer) (w 
 pub said-planned : (text : List ℕ) {p : Plan} {count : ℕ} {work inst : List ℤ} {a : Answered} {w i : List ℤ} → candidateLimit ≤ count → workSize ≤ length work
     → 512 ≤ length inst → Plans (fileOf text) p → LooksAt p 0 count work inst a w i → Said text (answerOf a) i
 said-planned text {count = count} {work} {inst} {a} {w} {i} many whole room P L =
-    said text count work inst (answerOf a) w i many whole room (looks-planned text L P)
+    said text count work inst (answerOf a) w i many whole room (looks-planned text L P .after)
 
 -- ---- the output
 

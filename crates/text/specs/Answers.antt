@@ -2,9 +2,9 @@
 use mathlib.Core.Path.{_≡_}
 use mathlib.Core.Bool.{Bool, cond}
 use mathlib.Core.List.{List, [], _∷_, _++_}
-use Prim.Native.Nat.{ℕ, _+_}
+use Prim.Native.Nat.{ℕ, _+_, _≤_}
 use lib.Dec.{leb}
-use lib.ListN.{length, take, drop}
+use lib.ListN.{length, getD, take, drop, replicate}
 use Rattle.text.specs.Text.{Lines, frames, refused, line}
 use Rattle.text.specs.declared.Frames.{Frames}
 
@@ -15,27 +15,28 @@ unfoldable pub pack : List (List ℕ) → List ℕ
 pack [] = []
 pack (f ∷ fs) = length f ∷ f ++ pack fs
 
--- the frames fs, decoded
+-- no frames, with a number and a line
+unfoldable pub blankFrames : ℕ → ℕ → Frames
+blankFrames n k = record { bytes = replicate 5462 0; used = 0; number = n; line = k }
+
+-- the frames fs, decoded; every other byte is 0
 pub record Holds (fs : List (List ℕ)) (r : Frames) : Type 0 where
   pub number : r .number ≡ 0
+  pub line : r .line ≡ 0
   pub used : r .used ≡ length (pack fs)
   pub packed : take (r .used) (r .bytes) ≡ pack fs
+  pub rest : (i : ℕ) → r .used ≤ i → getD (r .bytes) i 0 ≡ 0
   pub wide : length (r .bytes) ≡ 5462
 
 -- "A refusal returns its number and a line"
 pub record Refuses (n k : ℕ) (r : Frames) : Type 0 where
   pub number : r .number ≡ n
   pub line : r .line ≡ k
+  pub blank : r ≡ blankFrames n k
 
 abbrev pub Decoded : Lines → Frames → Type 0
 Decoded (frames fs) r = Holds fs r
 Decoded (refused n k) r = Refuses n k r
-
--- a refusal, with room for frames
-pub record Blank (n k : ℕ) (r : Frames) : Type 0 where
-  pub refuses : Refuses n k r
-  pub used : r .used ≡ 0
-  pub wide : length (r .bytes) ≡ 5462
 
 -- ---- writing
 

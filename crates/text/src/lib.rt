@@ -4,13 +4,13 @@ ghost use Prim.Native.Nat.{_≤_, _<_};
 ghost use lib.ListN.{length, drop};
 ghost use Rattle.text.specs.Text.{hexValue, hexDigit, linesOf, framesOf};
 ghost use Rattle.text.specs.Pair.{pairOf, pairTold};
-ghost use Rattle.text.specs.Answers.{Decoded, Blank, Written};
+ghost use Rattle.text.specs.Answers.{blankFrames, Decoded, Written};
 
 // Room for the frames of 8,192 bytes of text, each behind its length: the shortest line has three bytes and takes two.
 pub const ROOM: usize = 5462;
 
-// Number 0: the frames, in the first `used` bytes; the line is open. Any other number: a refusal at that line; what was read until then
-// is open, since nobody reads on.
+// Number 0: the frames, in the first `used` bytes; the line and every other byte are 0. Any other number: a refusal at that line, beside which
+// every other field is 0.
 pub struct Frames {
     pub bytes: [u8; ROOM],
     pub used: usize,
@@ -54,9 +54,9 @@ fn pair_at(text: &[u8], at: usize) -> HexPair
     HexPair::Byte(16 * high + low)
 }
 
-// A refusal, with room for frames.
-fn refusal(number: u8, line: u16) -> Frames
-    ensures { λ r. ⌜ Blank number line r ⌝ }
+// No frames, with this number and line.
+fn blank(number: u8, line: u16) -> Frames
+    ensures { λ r. ⌜ r ≡ blankFrames number line ⌝ }
 {
     Frames {
         bytes: [0u8; ROOM],
@@ -66,31 +66,32 @@ fn refusal(number: u8, line: u16) -> Frames
     }
 }
 
-// The frames of the lines of a text. Until the end is reached, the answer stands at a refusal of the present line.
+// The frames of the lines of a text, or its refusal by 2 at the first wrong line.
 fn lines_of(text: &[u8]) -> Frames
     requires { ⌜ length (now text) ≤ 8192 ⌝ }
     ensures { λ r. ⌜ Decoded (linesOf (now (text .entry))) r ⌝ }
 {
-    let mut r = refusal(2, 1);
+    let mut r = blank(0, 0);
+    let mut line: u16 = 1;
     let mut at = 0;
     let mut size = 0;
     while at < text.len() {
         let start = r.used;
         if text[at] == 10 {
             if size == 0 {
-                return r;
+                return blank(2, line);
             }
             r.bytes[start] = size as u8;
             r.used = start + 1 + size;
-            r.line = r.line + 1;
+            line = line + 1;
             size = 0;
             at = at + 1;
         } else {
             if 120 <= size {
-                return r;
+                return blank(2, line);
             }
             let HexPair::Byte(byte) = pair_at(text, at) else {
-                return r;
+                return blank(2, line);
             };
             let place = start + 1 + size;
             r.bytes[place] = byte;
@@ -99,9 +100,9 @@ fn lines_of(text: &[u8]) -> Frames
         }
     }
     if size == 0 {
-        r.number = 0;
+        return r;
     }
-    r
+    blank(2, line)
 }
 
 // The frames of a text, or its refusal by 1 or 2.
@@ -110,10 +111,10 @@ pub fn decode(text: &[u8]) -> Frames
     ensures { λ r. ⌜ Decoded (framesOf (now (text .entry))) r ⌝ }
 {
     if text.len() == 0 {
-        return refusal(1, 0);
+        return blank(1, 0);
     }
     if 8192 < text.len() {
-        return refusal(1, 0);
+        return blank(1, 0);
     }
     lines_of(text)
 }
