@@ -1,6 +1,6 @@
 -- The loop over the views, and whether a database is a case. Assumes nothing.
 use mathlib.Core.Path.{_≡_, refl, sym, ap, ap₂, _∙_}
-use mathlib.Core.Bool.{Bool, true, false, _||_, cond, true≢false}
+use mathlib.Core.Bool.{Bool, true, false, _&&_, _||_, cond, true≢false}
 use mathlib.Core.List.{List}
 use Prim.Native.Nat.{ℕ, suc, _+_, _≤_, _<_}
 use native.Mathlib.Omega.{arith}
@@ -9,7 +9,7 @@ use lib.IntN.{ℤ}
 use lib.ListN.{length, getD, set, length-set}
 use lib.Seq.{getD-set-same, getD-set-other}
 use Rattle.value.specs.Bag.{tick}
-use Rattle.value.proofs.Decides.{by-test}
+use Rattle.value.proofs.Decides.{by-test, and-parts}
 use Rattle.value.proofs.Bags.{tick-one}
 use Rattle.meaning.specs.Lists.{Each, isPos, any}
 use Rattle.meaning.specs.Syntax.{Table, Goal, File, Database}
@@ -32,7 +32,7 @@ use Rattle.views.proofs.Rooms.{positive}
 use Rattle.cases.specs.Needs.{Needed, Asked}
 use Rattle.cases.specs.Relations.{columnsOf, ViewRows, IsRefuted}
 use Rattle.cases.specs.Validity.{IsValid}
-use Rattle.cases.specs.Judgement.{Memory, memoryFrom, SignNoted, RowsNoted, Known, Ready, ViewIn, OnlyViews, Evaluates, IsWanted, IsCase}
+use Rattle.cases.specs.Judgement.{Memory, memoryFrom, SignNoted, RowsNoted, Known, Ready, ViewIn, OnlyViews, Evaluates, IsWanted, judgedFurther, IsCase}
 use Rattle.cases.proofs.FlagLaws.{no-flag}
 use Rattle.cases.proofs.Turns.{turn-known}
 
@@ -178,12 +178,16 @@ module _ {source : Source} {g : GoalHere} {memory : Memory} where
   -- a database with no rows, or one that is not valid, is no case
   pub case-empty : source .outline .filled ≡ false → IsCase source g memory false memory
   case-empty h = record {
+    early = λ _. (refl, refl);
+    late = λ t. let z : judgedFurther source memory ≡ false = rw h in absurd (true≢false (sym t ∙ z));
     kept = kept-same (source .outline) memory;
     case = λ {F} {d} G R. no-row F (goalOf g) d (filled-rows (R .shaped) ∙ sym (G .filled) ∙ h);
   }
 
   pub case-invalid : {b : Bool} → IsValid source (memory .counts) (memory .work) b → b ≡ false → IsCase source g memory false memory
   case-invalid ok h = record {
+    early = λ _. (refl, refl);
+    late = λ t. absurd (true≢false (sym (and-parts (source .outline .filled) _ t .1) ∙ sym (ok .here) ∙ h));
     kept = kept-same (source .outline) memory;
     case = λ {F} {d} G R. not-valid F (goalOf g) d (sym (ok .is-valid G (R .shaped) (R .tables)) ∙ h);
   }
@@ -191,6 +195,8 @@ module _ {source : Source} {g : GoalHere} {memory : Memory} where
   pub case-valid : {b r : Bool} {memory′ : Memory} → source .outline .filled ≡ true → IsValid source (memory .counts) (memory .work) b → b ≡ true
       → Evaluates source memory memory′ → IsWanted g (memory′ .counts) (memory′ .signs) r → IsCase source g memory r memory′
   case-valid {r = r} {memory′} f ok h E X = record {
+    early = λ t. let z : judgedFurther source memory ≡ true = ap₂ (λ (a b : Bool). a && b) f (sym (ok .here) ∙ h) in absurd (true≢false (sym z ∙ t));
+    late = λ _. (E, X);
     kept = E .kept;
     case = λ {F} {d} G R.
         is-wanted F (goalOf g) d (sym (ok .is-valid G (R .shaped) (R .tables)) ∙ h) (filled-rows (R .shaped) ∙ sym (G .filled) ∙ f)

@@ -11,7 +11,7 @@ use Rattle.meaning.specs.Valid.{Shaped}
 use Rattle.meaning.specs.Decided.{foreignKeyHolds, keyHolds, valid}
 use Rattle.meaning.proofs.DecidedValidity.{shaped-dec}
 use Rattle.catalog.specs.FileIn.{Source}
-use Rattle.cases.specs.Validity.{keysIn, foreignKeysIn, IsValid}
+use Rattle.cases.specs.Validity.{keysIn, foreignKeysIn, validIn, IsValid}
 use Rattle.cases.proofs.KeyLaws.{keys-told}
 use Rattle.cases.proofs.ForeignLaws.{foreigns-told}
 
@@ -22,6 +22,7 @@ valid-is F d sh = rw (true-dec (shaped-dec F d) sh)
 module _ {source : Source} {counts : List ℕ} {work : List ℤ} where
   told : {k f : Bool} → k ≡ keysIn (source .shape) counts work (source .outline .tables)
       → f ≡ foreignKeysIn (source .bytes) (source .outline .foreign) (source .outline .keys) counts work → {r : Bool} → r ≡ (k && f) → IsValid source counts work r
+  unfolding validIn
   told ek ef e = record {
     here = e ∙ ap₂ (λ (a b : Bool). a && b) ek ef;
     is-valid = λ {F} {d} G sh s.

@@ -1,6 +1,6 @@
 -- The views of a file one after the other, and whether a database is a case. Assumes nothing: these are definitions.
 use mathlib.Core.Path.{_≡_}
-use mathlib.Core.Bool.{Bool, true, false, cond}
+use mathlib.Core.Bool.{Bool, true, false, _&&_, cond}
 use mathlib.Core.List.{List}
 use Prim.Native.Nat.{ℕ, suc, _+_, _≤_, _<_}
 use lib.Dec.{eqb}
@@ -20,6 +20,7 @@ use Rattle.store.specs.Rows.{rowsIn}
 use Rattle.views.specs.Copies.{Apart}
 use Rattle.cases.specs.TablesIn.{TablesIn}
 use Rattle.cases.specs.Needs.{Needed, Asked, Covers}
+use Rattle.cases.specs.Validity.{validIn}
 use Rattle.cases.specs.Relations.{columnsOf, ViewRows, IsRefuted}
 
 -- what an evaluation reads and writes: numbers of rows; signs, 1 for a negative view, else 0; rows
@@ -88,7 +89,13 @@ pub record IsWanted (g : GoalHere) (counts signs : List ℕ) (r : Bool) : Type 0
   pub by-rows : g .negative ≡ false → r ≡ isPos (getD counts (g .view) 0)
   pub by-sign : g .negative ≡ true → r ≡ eqb (getD signs (g .view) 0) 1
 
--- of every legal file and every database of its row counts and value ranges
+-- some table has a row, and each key holds
+abbrev pub judgedFurther : Source → Memory → Bool
+judgedFurther source memory = source .outline .filled && validIn source (memory .counts) (memory .work)
+
+-- on any arrays, what was evaluated and asked; and the case, of every legal file and every database of its row counts and value ranges
 pub record IsCase (source : Source) (g : GoalHere) (memory : Memory) (r : Bool) (memory′ : Memory) : Type 0 where
+  pub early : judgedFurther source memory ≡ false → (r ≡ false) × (memory′ ≡ memory)
+  pub late : judgedFurther source memory ≡ true → Evaluates source memory memory′ × IsWanted g (memory′ .counts) (memory′ .signs) r
   pub kept : OnlyViews (source .outline) memory memory′
   pub case : {F : File} {d : Database} {ends : List ℤ} → FileIn F source ends → Ready F (goalOf g) d source memory → r ≡ isCase F (goalOf g) d

@@ -85,9 +85,13 @@ foreignKeysIn bytes at keys counts work =
 
 -- ---- the whole
 
+unfoldable pub validIn : Source → List ℕ → List ℤ → Bool
+validIn source counts work =
+    keysIn (source .shape) counts work (source .outline .tables)
+    && foreignKeysIn (source .bytes) (source .outline .foreign) (source .outline .keys) counts work
+
 -- on any arrays, and what it says of a file and a database
 pub record IsValid (source : Source) (counts : List ℕ) (work : List ℤ) (r : Bool) : Type 0 where
-  pub here : r ≡ (keysIn (source .shape) counts work (source .outline .tables)
-      && foreignKeysIn (source .bytes) (source .outline .foreign) (source .outline .keys) counts work)
+  pub here : r ≡ validIn source counts work
   pub is-valid : {F : File} {d : Database} {ends : List ℤ} → FileIn F source ends → Shaped F d → TablesIn F d counts work
       → r ≡ valid F d

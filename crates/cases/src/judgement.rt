@@ -34,7 +34,8 @@ fn note_rows(frame: &[u8], shape: &[u8], counts: &mut [u8], work: &mut [i32], v:
 
 // The views whose rows are needed or whose sign is asked, from the first to the last. `counts` has the number of rows of each relation,
 // at first of the tables; `signs` has 1 for a negative view, else 0. Which rows and signs there are is said of a file in memory and a database
-// in the work area; which numbers may change, of every input.
+// in the work area; which numbers may change, of every input. Nobody sees the rest: a plan is of a file, and what a search or a caller puts in
+// the work area is a database of it.
 // Refused: the first frame for each; rows behind the last relation.
 pub fn evaluate(
     bytes: &[u8],
@@ -68,8 +69,8 @@ pub fn wanted(goal: Goal, counts: &[u8], signs: &[u8]) -> bool
     0 < slice::byte_at(counts, goal.view as usize)
 }
 
-// Whether the database in the work area is a case of the goal: the answer is said of a file in memory and a database of it, as `evaluate`
-// says its rows.
+// Whether the database in the work area is a case of the goal. Of any input: false where no table has a row or a key is broken, and nothing
+// changes; else what `wanted` says of what `evaluate` leaves. That this is the case is said of a file in memory and a database of it.
 // Refused: an empty database; a database that is not valid.
 pub fn is_case(
     bytes: &[u8],

@@ -32,7 +32,7 @@ fn next(got: isize, done: usize, room: usize) -> Input
     Input::More(done + n)
 }
 
-// Reads until the input ends, the buffer is full or a read fails.
+// Reads until the input ends, the buffer is full or a read fails. Which bytes are read is open: they are the operating system's.
 // Refused: another answer for the last read's; twice as many bytes.
 pub fn read(text: &mut [u8]) -> Input
     ensures { λ r. ⌜ Reads (length (now (text .exit))) r ⌝ }
