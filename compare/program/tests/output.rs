@@ -219,6 +219,18 @@ fn a_read_that_fails() {
     assert_eq!(said, "generate: the input cannot be read\n");
 }
 
+/// A write that fails is said: a full device takes nothing.
+#[test]
+fn a_write_that_fails() {
+    let input = File::open("/dev/null").expect("an empty input");
+    let full = File::options()
+        .write(true)
+        .open("/dev/full")
+        .expect("a full device");
+    let said = generate::said_onto(input, full);
+    assert_eq!(said, "generate: the output cannot be written\n");
+}
+
 /// The program needs less than this many KiB of stack, what the system puts there included.
 const STACK: usize = 256;
 

@@ -49,6 +49,16 @@ pub fn run_on(input: impl Into<Stdio>) -> (Vec<u8>, String) {
     )
 }
 
+/// What it says on standard error with this as its standard input, and this as its standard output.
+pub fn said_onto(input: impl Into<Stdio>, output: impl Into<Stdio>) -> String {
+    let run = Command::new(path())
+        .stdin(input)
+        .stdout(output)
+        .output()
+        .expect("the program ends");
+    String::from_utf8_lossy(&run.stderr).into_owned()
+}
+
 /// What the program prints for a text with a stack of so many KiB.
 pub fn answer_with_stack(text: &[u8], kib: usize) -> Vec<u8> {
     let mut shell = Command::new("sh");
