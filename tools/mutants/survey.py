@@ -118,16 +118,16 @@ class Crate:
         ]
 
     def survey(self):
-        todo = {}
+        pending = {}
         for place, proof, path, body in self.functions():
             for n in body:
-                todo.setdefault(proof, []).extend((place, proof, path, n, line) for line in changes(self.sources[path][n]))
-        total, kept = sum(map(len, todo.values())), 0
+                pending.setdefault(proof, []).extend((place, proof, path, n, line) for line in changes(self.sources[path][n]))
+        total, kept = sum(map(len, pending.values())), 0
         status, log = self.prove([])
         if status:
             sys.exit(f"{self.name} is not proved as it is:\n{log[-2000:]}")
-        while any(todo.values()):
-            made = self.accepted([c.pop(0) for c in todo.values() if c])
+        while any(pending.values()):
+            made = self.accepted([c.pop(0) for c in pending.values() if c])
             made = self.accepted(made) if made else []
             kept += len(made)
             for place, _, path, n, line in made:
