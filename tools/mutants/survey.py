@@ -3,10 +3,13 @@
 
     rt check && python3 tools/mutants/survey.py CRATE..
 
-Every function has a list of changes. A round makes one change in each function, proves the crate in a copy, and reads which functions were
-refused; the functions of a cycle of calls have one proof and count as one. A change that is not refused is proved once more without
-those that were, and is printed. What is printed is the same function written otherwise, or a gap in a contract. It takes minutes for each crate.
+Every function has a list of changes. A round makes one change in each function and proves the crate in a copy; the functions of a cycle of calls
+have one proof and count as one. A change is refused where its own function's proof stops at a fact. It is not where only a function that it
+calls was refused, or where the proof file no longer fits the code: such changes are proved again without those that are decided, at last
+alone. Printed are changes that are not refused, which give the same function or show a gap in a contract, and those that were refused for their shape
+only, which show nothing. It takes minutes for each crate.
 """
+import collections
 import pathlib
 import platform
 import re
@@ -63,7 +66,7 @@ class Crate:
             "--antt-project", f"{kit}/logic/antt-project.json", "--logic-built", f"{own}/logic-built", "--incremental", str(room / f"{name}.kept"),
         ]
         (room / f"{name}.kept").mkdir()
-        self.no_program = 0
+        self.met = collections.Counter()
 
     def functions(self):
         """Each function by the folder of its proof, with its file and the lines of its body."""
@@ -98,41 +101,50 @@ class Crate:
         run = subprocess.run(self.command, capture_output=True, text=True)
         return run.returncode, run.stdout + run.stderr
 
-    def accepted(self, made):
-        """Those of the changes that are not refused."""
-        status, log = self.prove(made)
-        if status == 0:
-            return made
-        if not re.search(r"^logic=not-proved", log, re.M):
-            # no program: leave out what the compiler names; where it names none of them, find it by halves
-            named = {(p, int(n) - 1) for p, n in re.findall(r"/src/(\w+\.rt):(\d+):", log)}
-            left = [c for c in made if (c[2].name, c[3]) not in named]
-            if len(left) < len(made) or len(made) == 1:
-                self.no_program += max(1, len(made) - len(left))
-                return self.accepted(left) if left and len(made) > 1 else []
-            return self.accepted(made[: len(made) // 2]) + self.accepted(made[len(made) // 2 :])
-        return [
-            c for c in made
-            if not re.search(rf"/proofs/{re.escape(c[1])}(?:/Proof)?\.antt:\d+:\d+: error", log)
-            and not re.search(rf"^fn {self.name}::{c[0].replace('/', '::')}: no proof", log, re.M)
-        ]
+    def at_a_fact(self, change, log):
+        """Whether the change's own function is refused, and not for its shape."""
+        place, proof = change[:2]
+        said = re.findall(rf"/proofs/{re.escape(proof)}(?:/Proof)?\.antt:\d+:\d+: error: (.*)", log)
+        said = [s for s in said if not re.search(r"was not admitted|has no `|has no field|is not in scope", s)]
+        return bool(said) or bool(re.search(rf"^fn {self.name}::{place.replace('/', '::')}: no proof: .*`search` does not close", log, re.M))
+
+    def judge(self, made):
+        """What becomes of each change: no program, refused, refused for its shape, or not refused."""
+        while made:
+            status, log = self.prove(made)
+            if status == 0:
+                return self.note("not refused", made)
+            if re.search(r"^logic=not-proved", log, re.M):
+                told, what = [c for c in made if self.at_a_fact(c, log)], "refused"
+            else:
+                named = {(p, int(n) - 1) for p, n in re.findall(r"/src/(\w+\.rt):(\d+):", log)}
+                told, what = [c for c in made if (c[2].name, c[3]) in named], "no program"
+            if not told and len(made) == 1:
+                return self.note("shape" if what == "refused" else what, made)
+            if not told:
+                for change in made:
+                    self.judge([change])
+                return
+            self.note(what, told)
+            made = [c for c in made if c not in told]
+
+    def note(self, what, made):
+        self.met[what] += len(made)
+        for place, _, path, n, line in made:
+            if what in ("not refused", "shape"):
+                print(f"{what}: {self.name} {place} {path.name}:{n + 1}: {self.sources[path][n].strip()}  =>  {line.strip()}", flush=True)
 
     def survey(self):
         pending = {}
         for place, proof, path, body in self.functions():
             for n in body:
                 pending.setdefault(proof, []).extend((place, proof, path, n, line) for line in changes(self.sources[path][n]))
-        total, kept = sum(map(len, pending.values())), 0
         status, log = self.prove([])
         if status:
             sys.exit(f"{self.name} is not proved as it is:\n{log[-2000:]}")
         while any(pending.values()):
-            made = self.accepted([c.pop(0) for c in pending.values() if c])
-            made = self.accepted(made) if made else []
-            kept += len(made)
-            for place, _, path, n, line in made:
-                print(f"{self.name} {place} {path.name}:{n + 1}: {self.sources[path][n].strip()}  =>  {line.strip()}", flush=True)
-        print(f"{self.name}: {total} changes, {self.no_program} are no program, {kept} are not refused", flush=True)
+            self.judge([c.pop(0) for c in pending.values() if c])
+        print(f"{self.name}: {sum(self.met.values())} changes, " + ", ".join(f"{n} {what}" for what, n in sorted(self.met.items())), flush=True)
 
 
 for crate in sys.argv[1:]:
