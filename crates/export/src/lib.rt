@@ -2,9 +2,12 @@
 use checker::plan;
 use look;
 use look::Answer;
+use sentences;
 ghost use mathlib.Core.Path.{_≡_};
 ghost use Rattle.language.specs.FileOf.{fileOf};
 ghost use Rattle.look.specs.Looks.{answerOf};
+ghost use Rattle.sentences.specs.SheetOf.{sentenceIn};
+ghost use Rattle.sentences.specs.Answers.{Put};
 ghost use Rattle.export.specs.Answers.{checkAnswer, lookAnswer, Looks};
 
 // So many different payloads stand in 56 bits.
@@ -47,4 +50,14 @@ pub extern "C" fn sakthveim_look(
 {
     let a = look::look(text, start, count, work, instance);
     told(a)
+}
+
+// The sentence of a refusal in language 0, English, or 1, French, at the front of the buffer, and its length in bytes; 0 and an unchanged
+// buffer where it does not fit or the language is another.
+// Refused: English for every language; line 0 for every line.
+#[no_mangle]
+pub extern "C" fn sakthveim_sentence(number: u8, line: u16, language: u8, out: &mut [u8]) -> usize
+    ensures { λ r. ⌜ Put (sentenceIn language number line) (now (out .entry)) r (now (out .exit)) ⌝ }
+{
+    sentences::sentence(number, line, language, out)
 }

@@ -94,7 +94,7 @@ module _ (text : List ℕ) where
   pub says-only : {out : List ℕ} {x : Told} → Says text out x → (outputOf text ≡ out) × (readBack out ≡ x)
   says-only (Says.refused {n} {l} e) =
       let (low, high, few) = refusal-limits text n l e in
-      (output-is e, refusal-back n l high few)
+      (output-is e, refusal-back n l (omega arith) few)
   says-only (Says.none e f) = (answered e (answers e .1 .1 f), none-back)
   says-only (Says.first {F} {k} e f) =
       let A = accepted-text text F e in

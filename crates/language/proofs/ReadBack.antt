@@ -143,7 +143,7 @@ frames-back f {fs} p ps few =
     let all : All Frame (f ∷ fs) = All.cons p ps in
     ap toldLines (reads-back (f ∷ fs) all (omega arith) (omega (arith, text-length (all-map (λ f p. p .few) all))))
 
-pub refusal-back : (n l : ℕ) → n ≤ 10 → l < 65536 → readBack (textOf (refusalFrame n l ∷ [])) ≡ Told.refused n l
+pub refusal-back : (n l : ℕ) → n < 256 → l < 65536 → readBack (textOf (refusalFrame n l ∷ [])) ≡ Told.refused n l
 unfolding toldBy
 refusal-back n l h k =
     let own : Frame (refusalFrame n l) = record {

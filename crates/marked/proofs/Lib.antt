@@ -5,5 +5,7 @@ pub mod Computed
 pub mod Marked
 -- the theorem on the samples
 pub mod Samples
+-- the theorem on sheets
+pub mod Sheets
 -- misreadings of document 01
 pub mod Misreadings

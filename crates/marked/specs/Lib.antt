@@ -2,3 +2,5 @@
 pub mod Table
 -- more of the same, for every operation of the bounds and every token
 pub mod Samples
+-- what the second program prints
+pub mod Sheets

@@ -1,0 +1,2 @@
+-- The laws of the sheet.
+pub mod PlanSheets
