@@ -1,7 +1,8 @@
-/* A look at a rule file, as proved functions on plain numbers. Link with libexport.a, which `rt staticlib export` writes to
- * target/staticlib/. No function has a precondition: any text, any lengths, any start and any count are answered. A slice is a pointer
- * and the number of its elements; the pointer of an empty slice may be null. The slices lent to one call must not overlap, each must be
- * as long as the caller says, and SAKTHVEIM_STACK bytes of stack must be left: nothing else is asked of a caller. */
+/* A look at a rule file, and refusals as sentences, by proved functions on plain numbers. Link with libexport.a, which
+ * `rt staticlib export` writes to target/staticlib/. No function has a precondition: any text, any lengths, any start and any count are
+ * answered. A slice is a pointer and the number of its elements; the pointer of an empty slice may be null. The slices lent to one call
+ * must not overlap, each must be as long as the caller says, and SAKTHVEIM_STACK bytes of stack must be left: nothing else is asked of a
+ * caller. */
 #ifndef SAKTHVEIM_H
 #define SAKTHVEIM_H
 
@@ -38,6 +39,17 @@ uint64_t sakthveim_look(const uint8_t *text, size_t text_len, uint64_t start, ui
 /* The refusal in the number r that a refused look or check returns: its number, and its line from 1, or 0 where none is said. */
 #define SAKTHVEIM_NUMBER(r) ((uint32_t)((r) >> 16) & 0xffu)
 #define SAKTHVEIM_LINE(r) ((uint32_t)(r) & 0xffffu)
+
+/* The languages of a sentence. */
+#define SAKTHVEIM_ENGLISH 0u
+#define SAKTHVEIM_FRENCH 1u
+
+/* Bytes, room enough for any sentence. */
+#define SAKTHVEIM_SENTENCE 512u
+
+/* The refusal with this number and line as one sentence in UTF-8, at the front of the buffer: its length in bytes. No 0 closes it, and the
+ * bytes behind it are as they were. 0 where the buffer has no room for it or no language has this number; then no byte changes. */
+size_t sakthveim_sentence(uint8_t number, uint16_t line, uint8_t language, uint8_t *out, size_t out_len);
 
 #ifdef __cplusplus
 }

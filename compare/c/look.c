@@ -10,6 +10,14 @@ static const char text[] = "010101000000000c\n"
                            "0301010112000005010000010000\n"
                            "070200\n";
 
+/* Prints the English sentence of a refusal. No 0 closes it, so that its length is said. */
+static void say(uint8_t number, uint16_t line) {
+    uint8_t sentence[SAKTHVEIM_SENTENCE];
+    size_t length =
+        sakthveim_sentence(number, line, SAKTHVEIM_ENGLISH, sentence, SAKTHVEIM_SENTENCE);
+    printf("%.*s\n", (int)length, (const char *)sentence);
+}
+
 int main(void) {
     static int32_t work[SAKTHVEIM_WORK];
     int16_t cells[1];
@@ -28,6 +36,7 @@ int main(void) {
         return 0;
     default:
         printf("refusal %" PRIu32 ", line %" PRIu32 "\n", SAKTHVEIM_NUMBER(r), SAKTHVEIM_LINE(r));
+        say((uint8_t)SAKTHVEIM_NUMBER(r), (uint16_t)SAKTHVEIM_LINE(r));
         return 1;
     }
 }

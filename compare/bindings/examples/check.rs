@@ -1,4 +1,5 @@
 //! Checks the rule file on standard input: `check < rules.txt`.
+use sakthveim::Language;
 use std::io::Read;
 
 fn main() {
@@ -8,6 +9,9 @@ fn main() {
         .expect("standard input");
     match sakthveim::check(&text) {
         Ok(()) => println!("accepted"),
-        Err(refusal) => println!("refusal {}, line {}", refusal.number, refusal.line),
+        Err(refusal) => {
+            println!("refusal {}, line {}", refusal.number, refusal.line);
+            println!("{}", refusal.sentence(Language::English));
+        }
     }
 }

@@ -1,6 +1,6 @@
 //! Searches the rule file on standard input from 0 to the end, COUNT candidates at a time:
 //! `look COUNT < rules.txt`.
-use sakthveim::{look, Answer, Refusal, WORK};
+use sakthveim::{look, Answer, Language, Refusal, WORK};
 use std::io::Read;
 
 fn main() {
@@ -17,8 +17,9 @@ fn main() {
         match look(&text, start, count, &mut work, &mut instance) {
             // Too short for the cells: so it grows until it has exactly their number.
             Answer::Refused(Refusal { number: 12, .. }) => instance.push(0),
-            Answer::Refused(Refusal { number, line }) => {
-                return println!("refusal {number}, line {line}");
+            Answer::Refused(refusal) => {
+                println!("refusal {}, line {}", refusal.number, refusal.line);
+                return println!("{}", refusal.sentence(Language::English));
             }
             Answer::Spent(next) => {
                 println!("spent, next {next}");

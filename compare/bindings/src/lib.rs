@@ -11,11 +11,31 @@ pub const WORK: usize = 9216;
 /// Bytes of stack, enough for any call: a thread with a stack of this size can make it.
 pub const STACK: usize = 131_072;
 
+/// Bytes, room enough for any sentence.
+pub const SENTENCE: usize = 512;
+
 /// A refusal of document 01: its number, and the line from 1, or 0 where none is said.
 #[derive(Clone, Copy, Debug, PartialEq, Eq)]
 pub struct Refusal {
     pub number: u8,
     pub line: u16,
+}
+
+/// A language of the sentences, by its number.
+#[derive(Clone, Copy, Debug, PartialEq, Eq)]
+#[repr(u8)]
+pub enum Language {
+    English = 0,
+    French = 1,
+}
+
+impl Refusal {
+    /// The refusal as one sentence.
+    pub fn sentence(self, language: Language) -> String {
+        let mut out = [0; SENTENCE];
+        let length = sentence(self, language, &mut out);
+        String::from_utf8(out[..length].to_vec()).expect("sentences are UTF-8")
+    }
 }
 
 /// What a look answers.
@@ -49,6 +69,13 @@ extern "C" {
         instance: *mut i16,
         instance_length: usize,
     ) -> u64;
+    fn sakthveim_sentence(
+        number: u8,
+        line: u16,
+        language: u8,
+        out: *mut u8,
+        out_length: usize,
+    ) -> usize;
 }
 
 /// The refusal in what a refused check or look returns: the line in the lowest 16 bits, and the
@@ -96,5 +123,21 @@ pub fn look(text: &[u8], start: u64, count: u64, work: &mut [i32], instance: &mu
         NO_CASE => Answer::NoCase,
         REFUSED => Answer::Refused(refusal(value)),
         other => unreachable!("answer {other:#x}"),
+    }
+}
+
+/// A refusal as one sentence in UTF-8, at the front of `out`: its length in bytes. The bytes behind
+/// it are as they were. 0 where `out` has no room for it; then no byte changes, and [`SENTENCE`]
+/// bytes are enough for any.
+pub fn sentence(refusal: Refusal, language: Language, out: &mut [u8]) -> usize {
+    // The library writes within the buffer and keeps nothing.
+    unsafe {
+        sakthveim_sentence(
+            refusal.number,
+            refusal.line,
+            language as u8,
+            out.as_mut_ptr(),
+            out.len(),
+        )
     }
 }

@@ -1,7 +1,10 @@
-//! `examples/`: each rule file gives its stored answer, and its other files are there.
+//! `examples/`: each rule file gives its stored answer and, where it is refused, its stored sheet,
+//! and its other files are there.
 
-mod generate;
+mod program;
 
+use program::{GENERATE, SHEET};
+use reference::sentence::sheet;
 use reference::syntax::{Grouped, View};
 use reference::{read, report, File, Syntax};
 use std::collections::BTreeSet;
@@ -56,13 +59,31 @@ fn file(rules: &Path) -> File {
     read(&bytes(rules)).unwrap_or_else(|refusal| panic!("{}: {refusal:?}", rules.display()))
 }
 
+fn shown(bytes: &[u8]) -> String {
+    String::from_utf8_lossy(bytes).into_owned()
+}
+
 #[test]
 fn stored_answers() {
     for rules in accepted().iter().chain(&refused()) {
         let (name, text, stored) = (rules.display(), bytes(rules), stored_answer(rules));
-        let shown = |answer: &[u8]| String::from_utf8_lossy(answer).into_owned();
-        assert_eq!(shown(&generate::answer(&text)), shown(&stored), "{name}");
+        assert_eq!(shown(&GENERATE.answer(&text)), shown(&stored), "{name}");
         assert_eq!(shown(&report(&text)), shown(&stored), "{name}");
+    }
+}
+
+/// The second program prints the stored sheet of a refused file, and nothing for an accepted one.
+#[test]
+fn stored_sheets() {
+    let accepted = accepted().into_iter().map(|rules| (rules, Vec::new()));
+    let refused = refused().into_iter().map(|rules| {
+        let stored = bytes(&rules.with_extension("sheet"));
+        (rules, stored)
+    });
+    for (rules, stored) in accepted.chain(refused) {
+        let (name, text) = (rules.display(), bytes(&rules));
+        assert_eq!(shown(&SHEET.answer(&text)), shown(&stored), "{name}");
+        assert_eq!(shown(&sheet(&text)), shown(&stored), "{name}");
     }
 }
 
@@ -78,19 +99,39 @@ fn every_example_is_whole() {
         }
     }
     for rules in &refused() {
-        assert!(rules.with_extension("answer").is_file());
+        for extension in ["answer", "sheet"] {
+            let path = rules.with_extension(extension);
+            assert!(path.is_file(), "{}", path.display());
+        }
     }
 }
 
 #[test]
 fn no_file_without_its_rules() {
-    for extension in ["sql", "md", "answer"] {
+    for extension in ["sql", "md", "answer", "sheet"] {
         for path in files(&examples(), extension) {
             let readme = path.ends_with("README.md");
             let whole = path.with_extension("rules").is_file();
             assert!(readme || whole, "{}", path.display());
         }
     }
+}
+
+/// Only a refused file has a sheet.
+#[test]
+fn sheets_of_refused_files_alone() {
+    let of = |rules: &PathBuf| rules.with_extension("sheet");
+    let expected: Vec<PathBuf> = refused().iter().map(of).collect();
+    assert_eq!(files(&examples(), "sheet"), expected);
+}
+
+/// The sheet that the document shows is the stored one.
+#[test]
+fn a_sheet_in_the_document() {
+    let refused = examples().join("refused");
+    let document = shown(&bytes(&refused.join("README.md")));
+    let stored = shown(&bytes(&refused.join("8-too-many-rows.sheet")));
+    assert!(document.replace("\n    ", "\n").contains(&stored));
 }
 
 /// The document beside a rule file names it.

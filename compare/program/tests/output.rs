@@ -1,19 +1,15 @@
 //! The proved program beside the reference: the same output for the same input.
 
-mod generate;
+mod program;
+mod texts;
 
-#[path = "../../reference/tests/common/mod.rs"]
-mod common;
-
-use common::{text, EXAMPLE};
-use reference::gen::{self, Kind, Rng, Size, KINDS};
-use reference::{read, report, write};
+use program::{GENERATE, STACK};
+use reference::{gen, report, write};
 use std::collections::BTreeMap;
 use std::fs::File;
 use std::time::Duration;
-
-/// Damage may widen columns. A file with more candidates than this is left out.
-const MOST: u64 = 1 << 16;
+use texts::common::{text, EXAMPLE};
+use texts::shown;
 
 /// Texts compared, how many met each kind of answer, and how many were left out.
 #[derive(Default)]
@@ -25,12 +21,11 @@ struct Tally {
 
 impl Tally {
     fn compare(&mut self, text: &[u8]) {
-        if read(text).is_ok_and(|file| file.candidates > MOST) {
+        if texts::is_long(text) {
             self.left_out += 1;
             return;
         }
-        let found = generate::answer(text);
-        let shown = |bytes: &[u8]| String::from_utf8_lossy(bytes).into_owned();
+        let found = GENERATE.answer(text);
         assert_eq!(shown(&found), shown(&report(text)), "{}", shown(text));
         self.texts += 1;
         *self.met.entry(kind(&found)).or_insert(0) += 1;
@@ -63,60 +58,18 @@ fn kind(answer: &[u8]) -> String {
     }
 }
 
-/// A text of random bytes, most of them short.
-fn random_bytes(rng: &mut Rng) -> Vec<u8> {
-    let length = match rng.below(10) {
-        0 => rng.below(20_000),
-        1..=3 => rng.below(1_000),
-        _ => rng.below(60),
-    };
-    (0..length).map(|_| rng.bits() as u8).collect()
-}
-
 #[test]
 fn random_and_damaged_texts() {
     let mut tally = Tally::default();
-    let plain = (0..600).map(|seed| write(&gen::file(seed)));
-    let mixed = (0..600).map(|seed| write(&gen::mixed_file(seed)));
-    let files: Vec<Vec<u8>> = plain.chain(mixed).collect();
-    for (seed, file) in (0..).zip(&files) {
-        tally.compare(file);
-        tally.compare(&gen::damage(file, seed));
-        // rules on whole frames, which other damage seldom reaches
-        tally.compare(&gen::damage_of_kind(file, Kind::Spoil, seed));
-    }
-    for (_, kind) in KINDS {
-        for (seed, file) in (0..50).zip(&files) {
-            tally.compare(&gen::damage_of_kind(file, kind, seed));
-        }
-    }
-    let larger = Size {
-        candidates: 1 << 14,
-        ..Size::SMALL
-    };
-    for seed in 0..200 {
-        tally.compare(&write(&gen::file_of_size(seed, larger)));
-    }
-    let mut rng = Rng::new(0);
-    for _ in 0..200 {
-        tally.compare(&random_bytes(&mut rng));
-    }
-    for size in 1..=50 {
-        tally.compare(too_many_candidates(size).as_bytes());
+    for text in texts::random_and_damaged(600) {
+        tally.compare(&text);
     }
     assert!(tally.texts >= 5_000);
     tally.finish();
 }
 
-/// The example with a table of more than 2^24 candidates.
-fn too_many_candidates(size: u16) -> String {
-    let table = format!("01 01 02 00 0000 0fff 0000 {:04x}", 0x0fff + size);
-    let frames: Vec<&str> = EXAMPLE.lines().skip(1).collect();
-    text(&[&table, frames[0], frames[1], frames[2]])
-}
-
 fn said(text: &[u8]) -> String {
-    String::from_utf8(generate::answer(text)).expect("digits")
+    String::from_utf8(GENERATE.answer(text)).expect("digits")
 }
 
 /// "Input .. prints .."
@@ -157,19 +110,11 @@ fn a_table_without_rows() {
     assert_eq!(said(text.as_bytes()), "8000000000\n810000\n8101010003\n");
 }
 
-/// The example, and lines after its goal, so that it has exactly 8,192 bytes.
-fn longest_text() -> Vec<u8> {
-    let line = |bytes: usize| "07".repeat(bytes) + "\n";
-    let longest = EXAMPLE.to_owned() + &line(120).repeat(33);
-    let left = 8_192 - longest.len();
-    (longest + &line(left / 2)).into_bytes()
-}
-
 /// "The file has 1 to 8,192 bytes": the line after the goal is met at 8,192 bytes, and with one
 /// more byte none is read.
 #[test]
 fn lengths_at_the_limit() {
-    let mut text = longest_text();
+    let mut text = texts::longest();
     assert_eq!(text.len(), 8_192);
     assert_eq!(said(&text), "8f030005\n");
     text.push(b'\n');
@@ -181,13 +126,8 @@ fn lengths_at_the_limit() {
 /// An input that is too long is not cut where an accepted file ends.
 #[test]
 fn accepted_file_with_more_behind_it() {
-    for length in [8_193, 8_400, 65_536, 100_000, 1 << 21] {
-        let more = EXAMPLE.as_bytes().iter().cycle().take(length);
-        let text: Vec<u8> = more.copied().collect();
-        assert_eq!(said(&text), "8f010000\n", "{length}");
-        let zeros = EXAMPLE.as_bytes().iter().copied().chain(vec![0; length]);
-        let text: Vec<u8> = zeros.collect();
-        assert_eq!(said(&text), "8f010000\n", "{length}");
+    for text in texts::too_long() {
+        assert_eq!(said(&text), "8f010000\n", "{}", text.len());
     }
 }
 
@@ -197,14 +137,14 @@ fn small_pieces() {
     let pause = Duration::from_millis(3);
     let mixed = (0..8).map(|seed| write(&gen::mixed_file(seed)));
     let damaged = (0..8).map(|seed| gen::damage(&write(&gen::file(seed)), seed));
-    let texts = [EXAMPLE.as_bytes().to_vec()].into_iter();
-    for text in texts.chain(mixed).chain(damaged) {
-        let found = generate::answer_in_pieces(&text, 7, pause);
-        assert_eq!(found, generate::answer(&text));
+    let example = [EXAMPLE.as_bytes().to_vec()].into_iter();
+    for text in example.chain(mixed).chain(damaged) {
+        let found = GENERATE.answer_in_pieces(&text, 7, pause);
+        assert_eq!(found, GENERATE.answer(&text));
         assert_eq!(found, report(&text));
     }
-    let mut text = longest_text();
-    let long = |text: &[u8]| generate::answer_in_pieces(text, 700, pause);
+    let mut text = texts::longest();
+    let long = |text: &[u8]| GENERATE.answer_in_pieces(text, 700, pause);
     assert_eq!(long(&text), b"8f030005\n");
     text.push(b'\n');
     assert_eq!(long(&text), b"8f010000\n");
@@ -214,7 +154,7 @@ fn small_pieces() {
 #[test]
 fn a_read_that_fails() {
     let directory = File::open(env!("CARGO_MANIFEST_DIR")).expect("a directory");
-    let (printed, said) = generate::run_on(directory);
+    let (printed, said) = GENERATE.run_on(directory);
     assert_eq!(printed, b"");
     assert_eq!(said, "generate: the input cannot be read\n");
 }
@@ -227,19 +167,15 @@ fn a_write_that_fails() {
         .write(true)
         .open("/dev/full")
         .expect("a full device");
-    let said = generate::said_onto(input, full);
+    let said = GENERATE.said_onto(input, full);
     assert_eq!(said, "generate: the output cannot be written\n");
 }
-
-/// The program needs less than this many KiB of stack, what the system puts there included.
-const STACK: usize = 256;
 
 /// The files whose conditions and expressions nest the deepest.
 #[test]
 fn deepest_files() {
     for (name, text) in gen::deepest().into_iter().chain(gen::deepest_refused()) {
-        let shown = |answer: &[u8]| String::from_utf8_lossy(answer).into_owned();
-        let found = generate::answer_with_stack(&text, STACK);
+        let found = GENERATE.answer_within(STACK, &text);
         assert_eq!(shown(&found), shown(&report(&text)), "{name}");
     }
 }

@@ -1,5 +1,5 @@
 //! A plain reference for the rule file: reading and refusing it, the meaning of its views, its
-//! cases, its candidates, a look at them, and the program's output.
+//! cases, its candidates, a look at them, the program's output, and refusals as sentences.
 //!
 //! Every module is written from the document of exact rules; a comment that settles a choice
 //! quotes the sentence it rests on. Everything here is plain, except [`search`], which is the same
@@ -20,6 +20,7 @@ pub mod look;
 pub mod range;
 pub mod report;
 pub mod search;
+pub mod sentence;
 pub mod syntax;
 pub mod text;
 

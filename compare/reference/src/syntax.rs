@@ -14,7 +14,7 @@ pub const CANDIDATES: u64 = 1 << 24;
 /// A refusal: "its number and a line from 1, or line 0 where none is said".
 #[derive(Clone, Copy, Debug, PartialEq, Eq, Hash, PartialOrd, Ord)]
 pub struct Refusal {
-    /// The number, 1 to 13.
+    /// The number. A text or a look is refused by 1 to 13.
     pub number: u8,
     /// The line from 1, or 0.
     pub line: u16,

@@ -3,9 +3,9 @@
 mod common;
 
 use common::{explain, frames, EXAMPLE, EXAMPLE_ANSWER};
-use reference::{gen, report, write};
+use reference::sentence::{both, sheet};
+use reference::{gen, report, write, Refusal};
 use rulefile::answer;
-use rulefile::refusal::{meaning, MEANINGS};
 use std::io::Write;
 use std::process::{Command, Output, Stdio};
 
@@ -46,18 +46,41 @@ fn a_case_of_several_tables() {
     );
 }
 
+/// The worked example with a goal that has no sign.
+fn spoilt() -> String {
+    EXAMPLE.replace("070200", "0702")
+}
+
+/// What is said of it.
+const SPOILT: &str = "    0702\n\
+    Line 4: it is too short or too long, or has a token that may not stand where it stands \
+    (refusal 4).\n\
+    Ligne 4\u{a0}: elle est trop courte ou trop longue, ou contient un code qui ne peut pas se \
+    trouver à sa place (refus 4).\n";
+
 #[test]
 fn no_case_and_refusals() {
     assert_eq!(shown(EXAMPLE, "82\n"), "no case\n");
-    let damaged = EXAMPLE.replace("070200", "070202");
-    let expected = format!(
-        "refused by 5 at line 4\n    070202\n5 means: {}\n",
-        meaning(5)
+    assert_eq!(shown(&spoilt(), "8f040004\n"), SPOILT);
+    assert_eq!(
+        rulefile::explain(spoilt().as_bytes()),
+        Err(SPOILT.to_owned())
     );
-    assert_eq!(shown(&damaged, "8f050004\n"), expected);
-    assert_eq!(rulefile::explain(damaged.as_bytes()), Err(expected));
-    let expected = format!("refused by 1\n1 means: {}\n", meaning(1));
-    assert_eq!(rulefile::explain(b""), Err(expected));
+    let empty = String::from_utf8(sheet(b"")).expect("text");
+    assert_eq!(rulefile::explain(b""), Err(empty));
+}
+
+/// An answer may hold a refusal that no rule file meets.
+#[test]
+fn refusals_of_any_number() {
+    for number in 0..=255 {
+        for line in [0, 4, 65_535] {
+            let answer = format!("8f{number:02x}{line:04x}\n");
+            let offending = if line == 4 { "    070200\n" } else { "" };
+            let expected = offending.to_owned() + &both(Refusal { number, line });
+            assert_eq!(shown(EXAMPLE, &answer), expected);
+        }
+    }
 }
 
 #[test]
@@ -69,13 +92,7 @@ fn answers_that_are_none() {
     assert!(wrong(EXAMPLE, "8000000009\n").contains("0 tables, the file 1"));
     assert!(wrong(EXAMPLE, "8000000009\n8101010009\n").contains("does not fit table t0"));
     assert!(wrong(EXAMPLE, "8000000009\n81000100\n").contains("does not fit table t0"));
-    assert!(wrong("01\n", EXAMPLE_ANSWER).contains("refused by 4 at line 1"));
-}
-
-#[test]
-fn every_number_has_a_meaning() {
-    assert!((1..=13).all(|number| meaning(number) == MEANINGS[usize::from(number) - 1]));
-    assert_eq!(meaning(0), meaning(14));
+    assert!(wrong("01\n", EXAMPLE_ANSWER).contains("not accepted\n    01\nLine 1: it is too short"));
 }
 
 /// The refusal of any damaged text shows its line; every answer of the reference is understood.
@@ -89,6 +106,8 @@ fn random_answers() {
             let answered = answered.unwrap_or_else(|why| panic!("seed {seed}: {why}"));
             if let Err(refusal) = rulefile::explain(&rules) {
                 assert_eq!(refusal, answered, "seed {seed}");
+                let sheet = String::from_utf8(sheet(&rules)).expect("text");
+                assert!(refusal.ends_with(&sheet), "seed {seed}");
             }
         }
     }
@@ -98,9 +117,9 @@ fn random_answers() {
 #[test]
 fn wrong_lines_are_fit_to_print() {
     let refusal = rulefile::explain(b"01\x1b[2J\xff\n").expect_err("refused");
-    assert!(refusal.starts_with("refused by 2 at line 1\n    01\u{fffd}[2J\u{fffd}\n"));
+    assert!(refusal.starts_with("    01\u{fffd}[2J\u{fffd}\nLine 1: "));
     let refusal = rulefile::explain(&b"0".repeat(8000)).expect_err("refused");
-    assert!(refusal.contains("0 ...\n") && refusal.len() < 500);
+    assert!(refusal.contains("0 ...\nLine 1: ") && refusal.len() < 500);
 }
 
 fn program(arguments: &[&str], input: &str) -> Output {
@@ -128,9 +147,7 @@ fn the_program() {
     assert_eq!(assembled.stdout, EXAMPLE.as_bytes());
     assert!(explained.status.success() && assembled.status.success());
     let refused = program(&["explain"], "00\n");
-    assert!(refused
-        .stdout
-        .starts_with(b"refused by 3 at line 1\n    00\n3 means: "));
+    assert!(refused.stdout.starts_with(b"    00\nLine 1: its kind is "));
     let faulty = program(&["assemble"], "\nTABEL");
     assert!(faulty.stdout.is_empty() && faulty.stderr.starts_with(b"line 2: TABLE, "));
     let usage = program(&[], "");

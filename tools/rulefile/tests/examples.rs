@@ -1,10 +1,9 @@
-//! `examples/`: each rule file is explained by its stored text and made from it; stored answers and
-//! refusals are understood.
+//! `examples/`: each rule file is explained by its stored text and made from it; stored answers are
+//! understood, and a refusal is shown by its line and its stored sheet.
 
 mod common;
 
 use common::round_trip;
-use rulefile::refusal::meaning;
 use rulefile::{answer, assemble, explain};
 use std::fs;
 use std::path::{Path, PathBuf};
@@ -59,23 +58,17 @@ fn answers() {
     }
 }
 
-/// A refusal says its number and line, and shows the line.
 #[test]
 fn refusals() {
     for path in rule_files("refused") {
         let (name, rules) = (path.display(), text(&path));
         let stored = text(&path.with_extension("answer"));
-        let field = |at| usize::from_str_radix(&stored[at], 16).expect("digits");
-        let (number, line) = (field(2..4) as u8, field(4..8));
-        let place = match line {
+        let line = usize::from_str_radix(&stored[4..8], 16).expect("digits");
+        let offending = match line {
             0 => String::new(),
-            _ => {
-                let offending = rules.lines().nth(line - 1).expect("a line");
-                format!(" at line {line}\n    {offending}")
-            }
+            _ => format!("    {}\n", rules.lines().nth(line - 1).expect("a line")),
         };
-        let expected = format!("refused by {number}{place}\n{number} means: ");
-        let expected = expected + meaning(number) + "\n";
+        let expected = offending + &text(&path.with_extension("sheet"));
         assert_eq!(explain(rules.as_bytes()).as_ref(), Err(&expected), "{name}");
         let shown = answer::explain(rules.as_bytes(), stored.as_bytes());
         assert_eq!(shown, Ok(expected), "{name}");

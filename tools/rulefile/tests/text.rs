@@ -3,6 +3,8 @@
 mod common;
 
 use common::{assemble, fault, frames, round_trip, EXAMPLE};
+use reference::sentence::both;
+use reference::Refusal;
 
 /// A text with one view, which has this definition and stands on line 2.
 fn with_view(definition: &str) -> String {
@@ -233,19 +235,52 @@ fn endless_trees() {
     }
 }
 
+/// The refusal that the frames of a text meet.
+fn refusal(readable: &str) -> String {
+    let assembled = rulefile::assemble(readable.as_bytes()).expect("frames");
+    assert!(assembled.frames.starts_with(b"0102"));
+    assembled.refusal.expect("a refusal")
+}
+
+/// A view that is refused by 7.
+const AGGREGATE: &str = "\n  SELECT SUM(a.c0)\n  FROM t0 a";
+
 /// Frames that would be refused are given, with the refusal.
 #[test]
 fn refused_frames() {
-    let readable = with_view("\n  SELECT SUM(a.c0)\n  FROM t0 a");
-    let assembled = rulefile::assemble(readable.as_bytes()).expect("frames");
-    assert!(assembled.frames.starts_with(b"0102"));
-    let refusal = assembled.refusal.expect("a refusal");
-    let begin =
-        "refused by 7 at the statement of line 2\n    VIEW v1 AS\n7 means: the rule on aggr";
-    assert!(refusal.starts_with(begin), "{refusal}");
-    let long = with_view(&format!("SELECT 1{} FROM t0 a", " + 1".repeat(40)));
-    let refusal = rulefile::assemble(long.as_bytes()).expect("frames").refusal;
-    assert!(refusal.is_some_and(|it| it.starts_with("refused by 2 at the statement of line 2\n")));
+    let expected = "    VIEW v1 AS\n".to_owned() + &both(Refusal { number: 7, line: 2 });
+    assert_eq!(refusal(&with_view(AGGREGATE)), expected);
+    let long = refusal(&with_view(&format!(
+        "SELECT 1{} FROM t0 a",
+        " + 1".repeat(40)
+    )));
+    assert!(long.starts_with("    VIEW v1 AS SELECT 1 + 1 + "), "{long}");
+    assert!(
+        long.ends_with(&both(Refusal { number: 2, line: 2 })),
+        "{long}"
+    );
+}
+
+/// The line is that of the statement in the text, not that of its frame.
+#[test]
+fn lines_of_refused_statements() {
+    let below = |comments: usize| {
+        let comments = "-- a comment\n".repeat(comments);
+        refusal(&with_view(AGGREGATE).replace("VIEW", &format!("{comments}VIEW")))
+    };
+    for (comments, line) in [(1, 3), (40, 42), (65_533, 65_535), (65_534, 0)] {
+        let expected = "    VIEW v1 AS\n".to_owned() + &both(Refusal { number: 7, line });
+        assert_eq!(below(comments), expected);
+    }
+    // no line is at fault
+    let wide = with_view("SELECT a.c0 FROM t0 a").replace("0 .. 3", "0 .. 9999");
+    assert_eq!(
+        refusal(&wide),
+        both(Refusal {
+            number: 10,
+            line: 0
+        })
+    );
 }
 
 /// The texts shown in the README are as it says.
@@ -254,6 +289,9 @@ fn readme() {
     let readme = include_str!("../README.md");
     let plain = readme.replace("\n    ", "\n");
     assert!(plain.contains(&common::explain(EXAMPLE)));
+    let spoilt = EXAMPLE.replace("070200", "0702");
+    let refusal = rulefile::explain(spoilt.as_bytes()).expect_err("refused");
+    assert!(plain.contains(&refusal));
     let begin = plain.find("TABLE t0 ROWS 2").expect("a text");
     let goal = "GOAL NEGATIVE v5;\n";
     let end = plain.find(goal).expect("its end") + goal.len();

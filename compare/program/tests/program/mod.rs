@@ -1,0 +1,108 @@
+//! A proved program, run on a text.
+#![allow(dead_code)]
+
+use std::io::{ErrorKind, Write};
+use std::path::{Path, PathBuf};
+use std::process::{ChildStdin, Command, Stdio};
+use std::thread;
+use std::time::Duration;
+
+/// A program, by its name in `target/bin`.
+#[derive(Clone, Copy)]
+pub struct Program(&'static str);
+
+/// The first program: it prints the answer to a text in frames.
+pub const GENERATE: Program = Program("generate");
+
+/// The second program: it prints the sentences of a refusal.
+pub const SHEET: Program = Program("sheet");
+
+/// For `ulimit`: either program needs less than 256 KiB of stack, what the system puts there
+/// included.
+pub const STACK: &str = "-s 256";
+
+impl Program {
+    /// What the program prints for a text.
+    pub fn answer(self, text: &[u8]) -> Vec<u8> {
+        self.answer_in_pieces(text, text.len().max(1), Duration::ZERO)
+    }
+
+    /// What it prints for a text that arrives in pieces of a length, with a pause after each.
+    pub fn answer_in_pieces(self, text: &[u8], length: usize, pause: Duration) -> Vec<u8> {
+        answer_of(Command::new(self.path()), text, length, pause)
+    }
+
+    /// What it prints for a text under a limit, by the words that the shell's `ulimit` takes.
+    pub fn answer_within(self, limit: &str, text: &[u8]) -> Vec<u8> {
+        let mut shell = Command::new("sh");
+        shell
+            .args(["-c", &format!("ulimit {limit} && exec \"$0\"")])
+            .arg(self.path());
+        answer_of(shell, text, text.len().max(1), Duration::ZERO)
+    }
+
+    /// What it prints, and says on standard error, with this as its standard input.
+    pub fn run_on(self, input: impl Into<Stdio>) -> (Vec<u8>, String) {
+        let output = Command::new(self.path())
+            .stdin(input)
+            .output()
+            .expect("the program ends");
+        (
+            output.stdout,
+            String::from_utf8_lossy(&output.stderr).into_owned(),
+        )
+    }
+
+    /// What it says on standard error with this as its standard input, and this as its standard
+    /// output.
+    pub fn said_onto(self, input: impl Into<Stdio>, output: impl Into<Stdio>) -> String {
+        let run = Command::new(self.path())
+            .stdin(input)
+            .stdout(output)
+            .output()
+            .expect("the program ends");
+        String::from_utf8_lossy(&run.stderr).into_owned()
+    }
+
+    fn path(self) -> PathBuf {
+        let name = self.0;
+        let path = Path::new(env!("CARGO_MANIFEST_DIR")).join(format!("../../target/bin/{name}"));
+        assert!(
+            path.exists(),
+            "target/bin/{name} is not there: run `rt check {name}` first"
+        );
+        path
+    }
+}
+
+fn answer_of(mut command: Command, text: &[u8], length: usize, pause: Duration) -> Vec<u8> {
+    let mut child = command
+        .stdin(Stdio::piped())
+        .stdout(Stdio::piped())
+        .stderr(Stdio::piped())
+        .spawn()
+        .expect("the program starts");
+    let input = child.stdin.take().expect("a pipe");
+    // a thread of its own feeds the program, so that neither waits for the other
+    let output = thread::scope(|scope| {
+        scope.spawn(move || feed(input, text, length, pause));
+        child.wait_with_output()
+    })
+    .expect("the program ends");
+    let said = String::from_utf8_lossy(&output.stderr);
+    assert!(output.status.success(), "{}, {said}", output.status);
+    assert_eq!(said, "");
+    output.stdout
+}
+
+/// Writes the text and closes the pipe. The program reads no more than it needs to know that a text
+/// is too long, so it may be gone before the end.
+fn feed(mut input: ChildStdin, text: &[u8], length: usize, pause: Duration) {
+    for piece in text.chunks(length) {
+        match input.write_all(piece).and_then(|()| input.flush()) {
+            Ok(()) => thread::sleep(pause),
+            Err(error) if error.kind() == ErrorKind::BrokenPipe => return,
+            Err(error) => panic!("the program is not fed: {error}"),
+        }
+    }
+}
