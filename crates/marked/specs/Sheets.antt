@@ -6,26 +6,26 @@ use Prim.Native.Nat.{ℕ}
 use Prim.Native.String.{String}
 use lib.ListN.{replicate}
 use Rattle.sentences.specs.Words.{texts}
-use Rattle.sentences.specs.SheetOf.{closed, sheetOf}
+use Rattle.sentences.specs.SheetOf.{inLines, sheetOf}
 use Rattle.marked.specs.Table.{bytes, lines, program, selected, combined, squared}
 
 -- a text, and the lines of its sheet
-pub record Entry : Type 0 where
+pub record SheetEntry : Type 0 where
   pub text : List ℕ
   pub sheet : List String
 
-unfoldable pub SheetIs : Entry → Type 0
-SheetIs e = sheetOf (e .text) ≡ closed (texts (e .sheet))
+unfoldable pub SheetIs : SheetEntry → Type 0
+SheetIs e = sheetOf (e .text) ≡ inLines (texts (e .sheet))
 
-abbrev pub prints : List ℕ → List String → Entry
+abbrev pub prints : List ℕ → List String → SheetEntry
 prints text sheet = record { text = text; sheet = sheet }
 
 -- "or nothing where there is no 8f": a file with a case, and one without
-abbrev pub accepted : List Entry
-accepted = prints (program "070200") [] ∷ prints (program "070201") [] ∷ []
+abbrev pub ofAccepted : List SheetEntry
+ofAccepted = prints (program "070200") [] ∷ prints (program "070201") [] ∷ []
 
 -- of the text: no byte, one byte too many; a capital digit, a last line that is not closed, and a line far below
-abbrev pub ofText : List Entry
+abbrev pub ofText : List SheetEntry
 ofText =
     prints []
     ("The rule file is empty or longer than 8,192 bytes (refusal 1)."
@@ -50,7 +50,7 @@ ofText =
     ∷ []
 
 -- of the order of frames: one behind the goal, and no goal
-abbrev pub ofOrder : List Entry
+abbrev pub ofOrder : List SheetEntry
 ofOrder =
     prints (program "070200" ++ lines ("070200" ∷ []))
     ("Line 5: its kind is unknown or out of order; the order is tables, foreign keys, views, one goal (refusal 3)."
@@ -63,7 +63,7 @@ ofOrder =
     ∷ []
 
 -- of a frame's bytes: a goal without its sign, with sign 2, and of a relation that is not there
-abbrev pub ofBytes : List Entry
+abbrev pub ofBytes : List SheetEntry
 ofBytes =
     prints (program "0702")
     ("Line 4: it is too short or too long, or has a token that may not stand where it stands (refusal 4)."
@@ -80,7 +80,7 @@ ofBytes =
     ∷ []
 
 -- of a whole frame and of the amounts. A sum in a basic view; M11, M12 and M10
-abbrev pub ofRules : List Entry
+abbrev pub ofRules : List SheetEntry
 ofRules =
     prints (lines ("0101010000000003" ∷ "03010001100701010000" ∷ "070100" ∷ []))
     ("Line 2: an aggregate stands outside the having and select of an aggregate view or inside another, or a column outside every aggregate is not a grouping column (refusal 7)."
@@ -100,5 +100,5 @@ ofRules =
     ∷ [])
     ∷ []
 
-abbrev pub sheetTable : List Entry
-sheetTable = accepted ++ ofText ++ ofOrder ++ ofBytes ++ ofRules
+abbrev pub sheetTable : List SheetEntry
+sheetTable = ofAccepted ++ ofText ++ ofOrder ++ ofBytes ++ ofRules

@@ -13,7 +13,7 @@ use Rattle.meaning.specs.Lists.{all}
 use Rattle.sentences.specs.Words.{Language}
 use Rattle.sentences.specs.English.{english}
 use Rattle.sentences.specs.French.{french}
-use Rattle.sentences.specs.SheetOf.{languageOf, closed, firstLine, pastLine}
+use Rattle.sentences.specs.SheetOf.{languageOf, inLines, firstLine, pastLine}
 use Rattle.sentences.specs.Pieces.{pieces, pastLines, textsOf, Over}
 use Rattle.sentences.proofs.PutLaws.{past-nothing, over-same}
 
@@ -39,13 +39,13 @@ module _ (rest : List ℕ) where
       let f : eqb b 10 ≡ false = not-true (eqb b 10) x in
       rw f (past-of p y)
 
-pub piece-line : (ps : List (List ℕ)) → all unbroken ps ≡ true → (k : ℕ) → firstLine (pastLines k (closed ps)) ≡ getD ps k []
-unfolding closed pastLines firstLine
+pub piece-line : (ps : List (List ℕ)) → all unbroken ps ≡ true → (k : ℕ) → firstLine (pastLines k (inLines ps)) ≡ getD ps k []
+unfolding inLines pastLines firstLine
 piece-line [] h k = ap firstLine (past-nothing k)
-piece-line (p ∷ ps) h zero = line-of (closed ps) p (and-parts (unbroken p) (all unbroken ps) h .0)
+piece-line (p ∷ ps) h zero = line-of (inLines ps) p (and-parts (unbroken p) (all unbroken ps) h .0)
 piece-line (p ∷ ps) h (suc k) =
     let (x, y) = and-parts (unbroken p) (all unbroken ps) h in
-    ap (λ (l : List ℕ). firstLine (pastLines k l)) (past-of (closed ps) p x) ∙ piece-line ps y k
+    ap (λ (l : List ℕ). firstLine (pastLines k l)) (past-of (inLines ps) p x) ∙ piece-line ps y k
 
 -- the language that a number stands for
 pub english-when : (code : ℕ) → code ≡ 0 → languageOf code ≡ english
@@ -55,24 +55,24 @@ pub french-when : (code : ℕ) → (code ≡ 0 → ⊥) → languageOf code ≡ 
 french-when code e = rw (ne-eqb code 0 e) refl
 
 -- one computed test of each table
-abbrev pub Table : Language → Type 0
-Table w = all unbroken (pieces w) ≡ true
+abbrev pub UnbrokenPieces : Language → Type 0
+UnbrokenPieces w = all unbroken (pieces w) ≡ true
 
-pub english-table : Table english
-english-table = refl
+pub english-unbroken : UnbrokenPieces english
+english-unbroken = refl
 
-pub french-table : Table french
-french-table = refl
+pub french-unbroken : UnbrokenPieces french
+french-unbroken = refl
 
 -- line k of the table, and piece k of the language
-module _ (w v : Language) (t : Table w) (e : v ≡ w) (k : ℕ) where
-  same-piece : getD (pieces v) k [] ≡ firstLine (pastLines k (closed (pieces w)))
+module _ (w v : Language) (t : UnbrokenPieces w) (e : v ≡ w) (k : ℕ) where
+  same-piece : getD (pieces v) k [] ≡ firstLine (pastLines k (inLines (pieces w)))
   same-piece = ap (λ (x : Language). getD (pieces x) k []) e ∙ sym (piece-line (pieces w) t k)
 
-  pub piece-room : (at n : ℕ) → at + length (getD (pieces v) k []) ≤ n → at + length (firstLine (pastLines k (closed (pieces w)))) ≤ n
+  pub piece-room : (at n : ℕ) → at + length (getD (pieces v) k []) ≤ n → at + length (firstLine (pastLines k (inLines (pieces w)))) ≤ n
   piece-room at n h = omega (arith, ap length same-piece)
 
-  pub piece-over : {at r : ℕ} {out out′ : List ℕ} → Over (firstLine (pastLines k (closed (pieces w)))) at out r out′ → Over (getD (pieces v) k []) at out r out′
+  pub piece-over : {at r : ℕ} {out out′ : List ℕ} → Over (firstLine (pastLines k (inLines (pieces w)))) at out r out′ → Over (getD (pieces v) k []) at out r out′
   piece-over = over-same same-piece
 
 -- ---- where a language's sentences stand among its pieces

@@ -15,7 +15,7 @@ use Rattle.sentences.specs.Words.{Language}
 use Rattle.sentences.specs.English.{english}
 use Rattle.sentences.specs.French.{french}
 use Rattle.sentences.specs.Sentence.{figures, said, sentence}
-use Rattle.sentences.specs.SheetOf.{languageOf, sentenceIn, closed, bothSentences}
+use Rattle.sentences.specs.SheetOf.{languageOf, sentenceIn, inLines, bothSentences}
 use Rattle.sentences.specs.Pieces.{textsOf, Over}
 use Rattle.sentences.specs.Answers.{Put}
 use Rattle.sentences.proofs.PutLaws.{over-then, over-same, over-length, over-taken, whole-none}
@@ -137,7 +137,7 @@ put-in code n l {r} {s} {buffer} {buffer′} {out} {out′} h b o p =
     rw t (put-same (over-taken o (omega (arith, sentence-room code n l))) p)
 
 pub both-room : (n l : ℕ) → length (bothSentences n l) ≤ 1026
-unfolding bothSentences closed
+unfolding bothSentences inLines
 both-room n l =
     omega (
       arith,
@@ -150,7 +150,7 @@ both-room n l =
 module _ (n l : ℕ) {a b : ℕ} {buffer buffer₁ buffer₂ : List ℕ} (z : length buffer ≡ 1026)
     (e : Over (sentence english n l ++ 10 ∷ []) 0 buffer a buffer₁) (f : Over (sentence french n l ++ 10 ∷ []) a buffer₁ b buffer₂) where
   both-over : Over (bothSentences n l) 0 buffer b buffer₂
-  unfolding bothSentences closed
+  unfolding bothSentences inLines
   both-over = over-same (sym (append-assoc (sentence english n l) (10 ∷ []) (sentence french n l ++ 10 ∷ []))) (over-then e f)
 
   pub both-within : b ≤ length buffer₂

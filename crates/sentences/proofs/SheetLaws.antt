@@ -23,8 +23,8 @@ use Rattle.sentences.specs.Words.{Language}
 use Rattle.sentences.specs.English.{english}
 use Rattle.sentences.specs.French.{french}
 use Rattle.sentences.specs.Sentence.{figuresOf, figures, said, sentence, back}
-use Rattle.sentences.specs.SheetOf.{closed, bothSentences, sheetBy, sheetOf, firstLine, pastLine, SheetSays}
-use Rattle.sentences.proofs.PieceLaws.{unbroken, Table, english-table, french-table, line-of, past-of}
+use Rattle.sentences.specs.SheetOf.{inLines, bothSentences, sheetBy, sheetOf, firstLine, pastLine, SheetSays}
+use Rattle.sentences.proofs.PieceLaws.{unbroken, UnbrokenPieces, english-unbroken, french-unbroken, line-of, past-of}
 use Rattle.sentences.proofs.SentenceBack.{sentence-back}
 use Rattle.sentences.proofs.RoomLaws.{both-room}
 
@@ -58,7 +58,7 @@ all-parts (s ∷ ss) ts h =
     let (c, d) = all-parts ss ts b in
     (rw a c, d)
 
-module _ (w : Language) (t : Table w) (n : ℕ) where
+module _ (w : Language) (t : UnbrokenPieces w) (n : ℕ) where
   said-unbroken : (ts : List (List ℕ)) → all unbroken ts ≡ true → unbroken (w .close) ≡ true → unbroken (said w ts n) ≡ true
   said-unbroken ts h c =
       by-test (ltb 0 n && ltb n (length ts)) (λ k. rw k (all-getD ts n h))
@@ -80,17 +80,17 @@ module _ (w : Language) (t : Table w) (n : ℕ) where
 
 module _ (n l : ℕ) where
   first-sentence : firstLine (bothSentences n l) ≡ sentence english n l
-  unfolding bothSentences closed
-  first-sentence = line-of (sentence french n l ++ 10 ∷ []) (sentence english n l) (sentence-unbroken english english-table n l)
+  unfolding bothSentences inLines
+  first-sentence = line-of (sentence french n l ++ 10 ∷ []) (sentence english n l) (sentence-unbroken english english-unbroken n l)
 
   second-sentence : firstLine (pastLine (bothSentences n l)) ≡ sentence french n l
-  unfolding bothSentences closed
+  unfolding bothSentences inLines
   second-sentence =
-      ap firstLine (past-of (sentence french n l ++ 10 ∷ []) (sentence english n l) (sentence-unbroken english english-table n l))
-      ∙ line-of [] (sentence french n l) (sentence-unbroken french french-table n l)
+      ap firstLine (past-of (sentence french n l ++ 10 ∷ []) (sentence english n l) (sentence-unbroken english english-unbroken n l))
+      ∙ line-of [] (sentence french n l) (sentence-unbroken french french-unbroken n l)
 
   both-some : bothSentences n l ≡ [] → ⊥
-  unfolding bothSentences closed
+  unfolding bothSentences inLines
   both-some e = omega (arith, sym (length-append (sentence english n l) (10 ∷ (sentence french n l ++ 10 ∷ []))) ∙ ap length e)
 
 -- ---- the sheet of a text
@@ -132,7 +132,7 @@ module _ (text : List ℕ) where
       record {
         empty = (λ _. (F, e), λ _. z);
         printed = λ {n} {l} h k p. absurd (both-some n l (sym (printed-refused h k p) ∙ z));
-        said = λ f. absurd (f z);
+        gives-back = λ f. absurd (f z);
       }
   sheet-of (Outcome.refused n l) e =
       let (low, high, k) = refusal-limits text n l e in
@@ -142,7 +142,7 @@ module _ (text : List ℕ) where
       record {
         empty = (λ s. absurd (both-some n l (sym z ∙ s)), λ f. absurd (not-both e (f .1)));
         printed = λ h′ k′ p. let s = printed-refused h′ k′ p in let (x, y) = backs h′ k′ s in (s, x, y);
-        said = λ f. says-only text (Says.refused e) .0 ∙ ap (λ (x : ℕ × ℕ). textOf (refusalFrame (x .0) (x .1) ∷ [])) (sym b);
+        gives-back = λ f. says-only text (Says.refused e) .0 ∙ ap (λ (x : ℕ × ℕ). textOf (refusalFrame (x .0) (x .1) ∷ [])) (sym b);
       }
 
   pub sheet-says : SheetSays text

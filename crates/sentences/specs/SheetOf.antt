@@ -29,13 +29,13 @@ sentenceIn code n l = cond (ltb code 2) (sentence (languageOf code) n l) []
 -- ---- the sheet
 
 -- "each closed by LF"
-unfoldable pub closed : List (List ℕ) → List ℕ
-closed [] = []
-closed (p ∷ ps) = p ++ 10 ∷ closed ps
+unfoldable pub inLines : List (List ℕ) → List ℕ
+inLines [] = []
+inLines (p ∷ ps) = p ++ 10 ∷ inLines ps
 
 -- "both sentences, English first"
 unfoldable pub bothSentences : ℕ → ℕ → List ℕ
-bothSentences n l = closed (sentence english n l ∷ sentence french n l ∷ [])
+bothSentences n l = inLines (sentence english n l ∷ sentence french n l ∷ [])
 
 -- "or nothing where there is no 8f"
 abbrev pub sheetBy : Told → List ℕ
@@ -67,4 +67,4 @@ pub record SheetSays (text : List ℕ) : Type 0 where
       × (back english (firstLine (sheetOf text)) ≡ (n, l))
       × (back french (firstLine (pastLine (sheetOf text))) ≡ (n, l))
   -- and where the sheet has a line, the first program prints 8f with the number and the line that this gives back, and nothing else
-  pub said : (sheetOf text ≡ [] → ⊥) → let (n, l) = back english (firstLine (sheetOf text)) in outputOf text ≡ textOf (refusalFrame n l ∷ [])
+  pub gives-back : (sheetOf text ≡ [] → ⊥) → let (n, l) = back english (firstLine (sheetOf text)) in outputOf text ≡ textOf (refusalFrame n l ∷ [])

@@ -55,7 +55,7 @@ fn is_known(number: u8) -> bool
 }
 
 // Where the sentences begin among the pieces.
-fn first_of(named: bool) -> usize
+fn first_text(named: bool) -> usize
     ensures { λ r. ⌜ r ≡ cond named 22 3 ⌝ }
 {
     if named { THERE } else { ALONE }
@@ -67,7 +67,7 @@ fn put_text(language: u8, named: bool, n: u8, out: &mut [u8], at: usize) -> usiz
     requires { ⌜ at + length (getD (textsOf named (languageOf language)) n []) ≤ length (now out) ⌝ }
     ensures { λ r. ⌜ Over (getD (textsOf named (languageOf language)) n []) at (now (out .entry)) r (now (out .exit)) ⌝ }
 {
-    let first = first_of(named);
+    let first = first_text(named);
     words::put_piece(language, first + (n as usize), out, at)
 }
 
@@ -138,7 +138,7 @@ pub fn sentence(number: u8, line: u16, language: u8, out: &mut [u8]) -> usize
 
 // Both sentences of a refusal, English first, each closed by LF.
 // Refused: French first; English twice.
-pub fn both(number: u8, line: u16, out: &mut [u8]) -> usize
+pub fn both_sentences(number: u8, line: u16, out: &mut [u8]) -> usize
     ensures { λ r. ⌜ Put (bothSentences number line) (now (out .entry)) r (now (out .exit)) ⌝ }
 {
     let mut buffer = [0u8; SHEET];

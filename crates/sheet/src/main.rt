@@ -33,7 +33,7 @@ fn sheet(text: &[u8], out: &mut [u8]) -> usize
     if p.number == 0 {
         return 0;
     }
-    sentences::both(p.number, p.line, out)
+    sentences::both_sentences(p.number, p.line, out)
 }
 
 fn say_unreadable() {

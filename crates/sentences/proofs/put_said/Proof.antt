@@ -6,12 +6,6 @@ use Rattle.sentences.proofs.PutLaws.{over-same}
 use Rattle.sentences.proofs.SaidLaws.{known-small, known-room, said-known, first-room, number-room, close-room, other-put}
 use Rattle.sentences.proofs.put_said.Statement.{statement}
 use Rattle.sentences.proofs.put_said.Tie as tie
-use Rattle.sentences.proofs.put_said.Reads as reads
-use Rattle.sentences.proofs.put_said.Lts as lts
-use Rattle.sentences.proofs.is_known.Reads as is-known-reads
-use Rattle.sentences.proofs.put_figures.Reads as put-figures-reads
-use Rattle.sentences.proofs.put_text.Reads as put-text-reads
-use Rattle.sentences.proofs.words.put_piece.Reads as put-piece-reads
 
 is-known-requires : tie.Need-is-known-requires
 is-known-requires c κs = search needs

@@ -5,11 +5,6 @@ use Rattle.sentences.proofs.PutLaws.{over-same}
 use Rattle.sentences.proofs.SaidLaws.{sentence-alone, alone-room, line-room, figures-room, colon-room, there-room, there-put}
 use Rattle.sentences.proofs.put_sentence.Statement.{statement}
 use Rattle.sentences.proofs.put_sentence.Tie as tie
-use Rattle.sentences.proofs.put_sentence.Reads as reads
-use Rattle.sentences.proofs.put_sentence.Lts as lts
-use Rattle.sentences.proofs.put_figures.Reads as put-figures-reads
-use Rattle.sentences.proofs.put_said.Reads as put-said-reads
-use Rattle.sentences.proofs.words.put_piece.Reads as put-piece-reads
 
 put-said-requires : tie.Need-put-said-requires
 put-said-requires c κs =

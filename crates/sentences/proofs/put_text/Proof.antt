@@ -8,11 +8,11 @@ use Rattle.sentences.proofs.SaidLaws.{text-piece, first-small}
 use Rattle.sentences.proofs.put_text.Statement.{statement}
 use Rattle.sentences.proofs.put_text.Tie as tie
 
-first-of-requires : tie.Need-first-of-requires
-first-of-requires c κs = search needs
+first-text-requires : tie.Need-first-text-requires
+first-text-requires c κs = search needs
 
 add-put-piece : tie.Need-add-put-piece
-add-put-piece c = omega (arith, first-small (c .before .before .args .named) (c .first-of .ensures))
+add-put-piece c = omega (arith, first-small (c .before .before .args .named) (c .first-text .ensures))
 
 put-piece-requires : tie.Need-put-piece-requires
 put-piece-requires c κs =
@@ -20,7 +20,7 @@ put-piece-requires c κs =
     omega (
       arith,
       c .before .before .before .pre .1,
-      ap length (text-piece (a .language) (a .n) (a .named) (c .before .first-of .ensures) (c .before .before .before .pre .0)),
+      ap length (text-piece (a .language) (a .n) (a .named) (c .before .first-text .ensures) (c .before .before .before .pre .0)),
     )
 
 same-length : tie.Need-same-length
@@ -30,9 +30,9 @@ returns : tie.Need-returns
 returns c =
     let a = c .before .before .before .before .before .before .args in
     over-same
-    (sym (text-piece (a .language) (a .n) (a .named) (c .before .before .before .before .first-of .ensures) (c .before .before .before .before .before .before .pre .0)))
+    (sym (text-piece (a .language) (a .n) (a .named) (c .before .before .before .before .first-text .ensures) (c .before .before .before .before .before .before .pre .0)))
     (c .before .before .put-piece .ensures)
 
 pub put-text-spec : {M : Type 1} → statement M
 put-text-spec =
-    tie.close (tie.spec first-of-requires add-put-piece put-piece-requires same-length returns)
+    tie.close (tie.spec first-text-requires add-put-piece put-piece-requires same-length returns)

@@ -6,10 +6,6 @@ use Rattle.sentences.proofs.RoomLaws.{put-whole, put-within}
 use Rattle.sentences.proofs.SheetLaws.{sheet-room}
 use Rattle.sheet.proofs.print_sheet.Statement.{statement}
 use Rattle.sheet.proofs.print_sheet.Tie as tie
-use Rattle.sheet.proofs.print_sheet.Reads as reads
-use Rattle.sheet.proofs.print_sheet.Lts as lts
-use Rattle.sheet.proofs.sheet.Reads as sheet-reads
-use Rattle.sheet.proofs.write_sheet.Reads as write-sheet-reads
 
 slice-aggregate-sheet : tie.Need-slice-aggregate-sheet
 slice-aggregate-sheet c = search needs

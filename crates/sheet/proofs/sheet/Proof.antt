@@ -3,10 +3,6 @@ use borrow.Author.Needs.{needs}
 use Rattle.sheet.proofs.PlanSheets.{no-sheet, a-sheet}
 use Rattle.sheet.proofs.sheet.Statement.{statement}
 use Rattle.sheet.proofs.sheet.Tie as tie
-use Rattle.sheet.proofs.sheet.Reads as reads
-use Rattle.sheet.proofs.sheet.Lts as lts
-use Rattle.checker.proofs.plan.check.Reads as check-reads
-use Rattle.sentences.proofs.both.Reads as both-reads
 
 check-requires : tie.Need-check-requires
 check-requires c κs = search needs
@@ -16,8 +12,8 @@ returns c =
     no-sheet (c .before .before .before .before .before .args .text .now) (c .before .before .check .result) (c .before .before .check .ensures)
     (search needs)
 
-both-requires : tie.Need-both-requires
-both-requires c κs = search needs
+both-sentences-requires : tie.Need-both-sentences-requires
+both-sentences-requires c κs = search needs
 
 same-length : tie.Need-same-length
 same-length c = search needs
@@ -26,7 +22,7 @@ returns-2 : tie.Need-returns-2
 returns-2 c =
     a-sheet (c .before .before .before .before .before .before .before .before .before .args .text .now)
     (c .before .before .before .before .before .before .check .result) (c .before .before .before .before .before .before .check .ensures)
-    (search needs) (c .before .before .both .ensures)
+    (search needs) (c .before .before .both-sentences .ensures)
 
 pub sheet-spec : {M : Type 1} → statement M
-sheet-spec = tie.close (tie.spec check-requires returns both-requires same-length returns-2)
+sheet-spec = tie.close (tie.spec check-requires returns both-sentences-requires same-length returns-2)

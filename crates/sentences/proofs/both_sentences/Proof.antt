@@ -1,4 +1,4 @@
--- `sentences::both` meets its contract. Assumes nothing.
+-- `sentences::both_sentences` meets its contract. Assumes nothing.
 use mathlib.Core.List.{_∷_, []}
 use mathlib.Core.Path.{sym, refl}
 use native.Mathlib.Omega.{arith}
@@ -9,8 +9,8 @@ use Rattle.sentences.specs.English.{english}
 use Rattle.sentences.specs.Sentence.{sentence}
 use Rattle.sentences.proofs.PutLaws.{over-length}
 use Rattle.sentences.proofs.RoomLaws.{sentence-room, both-within, put-both}
-use Rattle.sentences.proofs.both.Statement.{statement}
-use Rattle.sentences.proofs.both.Tie as tie
+use Rattle.sentences.proofs.both_sentences.Statement.{statement}
+use Rattle.sentences.proofs.both_sentences.Tie as tie
 
 slice-aggregate-put-closed : tie.Need-slice-aggregate-put-closed
 slice-aggregate-put-closed c = search needs
@@ -55,8 +55,8 @@ returns c =
     put-both (a .number) (a .line) refl (c .before .before .before .before .before .before .before .before .before .put-closed .ensures)
     (c .before .before .before .before .before .before .put-closed2 .ensures) (c .before .before .put-whole .ensures)
 
-pub both-spec : {M : Type 1} → statement M
-both-spec =
+pub both-sentences-spec : {M : Type 1} → statement M
+both-sentences-spec =
     tie.close
     (tie.spec
     slice-aggregate-put-closed
