@@ -100,7 +100,7 @@ fn the_worked_example() {
     let expected = "Line 4: it is too short or too long, or has a token that may not stand where \
         it stands (refusal 4).\n\
         Ligne 4\u{a0}: elle est trop courte ou trop longue, ou contient un code qui ne peut pas se \
-        trouver à sa place (refus 4).\n";
+        trouver là où il est (refus 4).\n";
     assert_eq!(said(spoilt.as_bytes()), expected);
     let empty = "The rule file is empty or longer than 8,192 bytes (refusal 1).\n\
         Le fichier de règles est vide ou dépasse 8\u{202f}192 octets (refus 1).\n";

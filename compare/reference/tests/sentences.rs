@@ -207,7 +207,7 @@ fn the_longest_sentence() {
     let mut longest = 0;
     each(|_, _, said| longest = longest.max(said.len()));
     println!("the longest sentence has {longest} bytes");
-    assert_eq!(longest, 358);
+    assert_eq!(longest, 377);
     assert!(longest <= ROOM);
 }
 
@@ -218,7 +218,7 @@ fn sheets() {
     let expected = "Line 4: it is too short or too long, or has a token that may not stand where \
         it stands (refusal 4).\n\
         Ligne 4\u{a0}: elle est trop courte ou trop longue, ou contient un code qui ne peut pas se \
-        trouver à sa place (refus 4).\n";
+        trouver là où il est (refus 4).\n";
     assert_eq!(
         String::from_utf8(sheet(spoilt.as_bytes())),
         Ok(expected.to_owned())

@@ -56,7 +56,7 @@ const SPOILT: &str = "    0702\n\
     Line 4: it is too short or too long, or has a token that may not stand where it stands \
     (refusal 4).\n\
     Ligne 4\u{a0}: elle est trop courte ou trop longue, ou contient un code qui ne peut pas se \
-    trouver à sa place (refus 4).\n";
+    trouver là où il est (refus 4).\n";
 
 #[test]
 fn no_case_and_refusals() {
