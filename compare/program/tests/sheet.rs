@@ -7,7 +7,6 @@ mod texts;
 use program::{GENERATE, SHEET, STACK};
 use reference::sentence::{back, sheet, Language};
 use reference::{gen, text as lines, write, Refusal};
-use std::fs::File;
 use std::time::Duration;
 use texts::common::{text, EXAMPLE};
 use texts::shown;
@@ -146,24 +145,18 @@ fn small_pieces() {
     assert_eq!(long(&text), said(&text));
 }
 
-/// A read that fails is not taken for the end of an empty input: a directory cannot be read.
+/// A read that fails is not taken for the end of an empty input.
 #[test]
 fn a_read_that_fails() {
-    let directory = File::open(env!("CARGO_MANIFEST_DIR")).expect("a directory");
-    let (printed, said) = SHEET.run_on(directory);
+    let (printed, said) = SHEET.on_a_directory();
     assert_eq!(printed, b"");
     assert_eq!(said, "sheet: the input cannot be read\n");
 }
 
-/// A write that fails is said: a full device takes nothing.
+/// A write that fails is said.
 #[test]
 fn a_write_that_fails() {
-    let input = File::open("/dev/null").expect("an empty input");
-    let full = File::options()
-        .write(true)
-        .open("/dev/full")
-        .expect("a full device");
-    let said = SHEET.said_onto(input, full);
+    let said = SHEET.onto_a_full_device();
     assert_eq!(said, "sheet: the output cannot be written\n");
 }
 

@@ -43,7 +43,7 @@ fn print_output(text: &[u8]) {
 }
 
 fn main() {
-    let mut text = [0u8; report::INPUT];
+    let mut text = [0u8; input::ROOM];
     let input = read_text(&mut text);
     match input {
         Input::More(n) => print_output(&text[..n]),

@@ -3,6 +3,9 @@ ghost use mathlib.Core.Path.{_≡_};
 ghost use lib.ListN.{length};
 ghost use Rattle.input.specs.Input.{inputOf, Reads};
 
+// How many bytes of an input settle what is printed: one more than a rule file may have (`inputRoom`).
+pub const ROOM: usize = 8193;
+
 const STDIN: i32 = 0;
 
 // How far reading has come: more may follow behind so many bytes, the input ended behind so many, or a read failed.

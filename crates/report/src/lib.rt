@@ -14,9 +14,6 @@ ghost use Rattle.report.specs.Lines.{CellsPut, TableLined, TablesLined, 
 // Room for any output: a line of 11 bytes for the case, and for each of 16 tables one of at most 135, with 32 cells.
 pub const ROOM: usize = 2171;
 
-// How many bytes of the input settle the output: one more than a rule file may have (`inputRoom`).
-pub const INPUT: usize = 8193;
-
 // The bytes of n cells from `first` on, behind the first three of a frame.
 fn put_cells(cells: &[i16], first: usize, n: usize, frame: &mut [u8])
     requires { ⌜ first + n ≤ length (now cells) ⌝ }

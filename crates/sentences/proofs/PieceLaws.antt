@@ -8,8 +8,11 @@ use borrow.Author.Tests.{not-true, eq-eqb, ne-eqb}
 use lib.Dec.{eqb}
 use lib.ListN.{length, getD}
 use lib.Seq.{getD-append-add}
-use Rattle.value.proofs.Decides.{by-test, and-parts}
+use Rattle.value.specs.Bag.{All}
+use Rattle.value.proofs.Decides.{by-test}
+use Rattle.value.proofs.Values.{all-map}
 use Rattle.meaning.specs.Lists.{all}
+use Rattle.meaning.proofs.Elements.{all-test}
 use Rattle.sentences.specs.Words.{Language}
 use Rattle.sentences.specs.English.{english}
 use Rattle.sentences.specs.French.{french}
@@ -19,33 +22,25 @@ use Rattle.sentences.proofs.PutLaws.{past-nothing, over-same}
 
 -- ---- pieces in which no LF stands
 
-abbrev pub unbroken : List ℕ → Bool
-unbroken = all (λ (b : ℕ). not (eqb b 10))
+abbrev isOther : ℕ → Bool
+isOther b = not (eqb b 10)
 
-module _ (rest : List ℕ) where
-  pub line-of : (p : List ℕ) → unbroken p ≡ true → firstLine (p ++ 10 ∷ rest) ≡ p
-  unfolding firstLine
-  line-of [] h = refl
-  line-of (b ∷ p) h =
-      let (x, y) = and-parts (not (eqb b 10)) (unbroken p) h in
-      let f : eqb b 10 ≡ false = not-true (eqb b 10) x in
-      rw f (ap (λ (q : List ℕ). b ∷ q) (line-of p y))
+abbrev pub Unbroken : List ℕ → Type 0
+Unbroken = All (λ b. isOther b ≡ true)
 
-  pub past-of : (p : List ℕ) → unbroken p ≡ true → pastLine (p ++ 10 ∷ rest) ≡ rest
-  unfolding pastLine
-  past-of [] h = refl
-  past-of (b ∷ p) h =
-      let (x, y) = and-parts (not (eqb b 10)) (unbroken p) h in
-      let f : eqb b 10 ≡ false = not-true (eqb b 10) x in
-      rw f (past-of p y)
+-- the first line, and what stands behind it
+pub line-of : (rest : List ℕ) {p : List ℕ} → Unbroken p → (firstLine (p ++ 10 ∷ rest) ≡ p) × (pastLine (p ++ 10 ∷ rest) ≡ rest)
+unfolding firstLine pastLine
+line-of rest All.nil = (refl, refl)
+line-of rest (All.cons {x = b} h hs) =
+    let (e, f) = line-of rest hs in
+    rw (not-true (eqb b 10) h) (ap (λ (q : List ℕ). b ∷ q) e, f)
 
-pub piece-line : (ps : List (List ℕ)) → all unbroken ps ≡ true → (k : ℕ) → firstLine (pastLines k (inLines ps)) ≡ getD ps k []
+pub piece-line : {ps : List (List ℕ)} → All Unbroken ps → (k : ℕ) → firstLine (pastLines k (inLines ps)) ≡ getD ps k []
 unfolding inLines pastLines firstLine
-piece-line [] h k = ap firstLine (past-nothing k)
-piece-line (p ∷ ps) h zero = line-of (inLines ps) p (and-parts (unbroken p) (all unbroken ps) h .0)
-piece-line (p ∷ ps) h (suc k) =
-    let (x, y) = and-parts (unbroken p) (all unbroken ps) h in
-    ap (λ (l : List ℕ). firstLine (pastLines k l)) (past-of (inLines ps) p x) ∙ piece-line ps y k
+piece-line All.nil k = ap firstLine (past-nothing k)
+piece-line (All.cons {xs = ps} h hs) zero = line-of (inLines ps) h .0
+piece-line (All.cons {xs = ps} h hs) (suc k) = ap (λ (l : List ℕ). firstLine (pastLines k l)) (line-of (inLines ps) h .1) ∙ piece-line hs k
 
 -- the language that a number stands for
 pub english-when : (code : ℕ) → code ≡ 0 → languageOf code ≡ english
@@ -55,19 +50,19 @@ pub french-when : (code : ℕ) → (code ≡ 0 → ⊥) → languageOf code ≡ 
 french-when code e = rw (ne-eqb code 0 e) refl
 
 -- one computed test of each table
-abbrev pub UnbrokenPieces : Language → Type 0
-UnbrokenPieces w = all unbroken (pieces w) ≡ true
+tested : (w : Language) → all (all isOther) (pieces w) ≡ true → All Unbroken (pieces w)
+tested w e = all-map (λ p t. all-test isOther p t) (all-test (all isOther) (pieces w) e)
 
-pub english-unbroken : UnbrokenPieces english
-english-unbroken = refl
+pub english-unbroken : All Unbroken (pieces english)
+english-unbroken = tested english refl
 
-pub french-unbroken : UnbrokenPieces french
-french-unbroken = refl
+pub french-unbroken : All Unbroken (pieces french)
+french-unbroken = tested french refl
 
 -- line k of the table, and piece k of the language
-module _ (w v : Language) (t : UnbrokenPieces w) (e : v ≡ w) (k : ℕ) where
+module _ (w v : Language) (t : All Unbroken (pieces w)) (e : v ≡ w) (k : ℕ) where
   same-piece : getD (pieces v) k [] ≡ firstLine (pastLines k (inLines (pieces w)))
-  same-piece = ap (λ (x : Language). getD (pieces x) k []) e ∙ sym (piece-line (pieces w) t k)
+  same-piece = ap (λ (x : Language). getD (pieces x) k []) e ∙ sym (piece-line t k)
 
   pub piece-room : (at n : ℕ) → at + length (getD (pieces v) k []) ≤ n → at + length (firstLine (pastLines k (inLines (pieces w)))) ≤ n
   piece-room at n h = omega (arith, ap length same-piece)

@@ -1,16 +1,16 @@
 -- Room for every sentence, and for both. Assumes nothing.
-use mathlib.Core.Path.{_≡_, refl, sym, ap, subst, _∙_}
+use mathlib.Core.Path.{_≡_, refl, sym, ap, subst}
 use mathlib.Core.Bool.{Bool, true, false, _&&_, cond}
 use mathlib.Core.List.{List, [], _∷_, _++_, append-assoc}
 use Prim.Native.Nat.{ℕ, _≤_, _<_}
 use native.Mathlib.Omega.{arith}
-use borrow.Author.Tests.{leb-true, ltb-false, lt-ltb, le-ltb, eqb-true, eqb-false}
+use borrow.Author.Tests.{leb-true, lt-ltb, le-ltb, eqb-true, eqb-false}
 use lib.Dec.{ltb, leb, eqb}
-use lib.ListN.{length, getD, take, drop, length-append}
-use lib.Seq.{take-at}
+use lib.ListN.{length, getD, take, length-append}
 use Rattle.value.proofs.Decides.{by-test, and-parts}
 use Rattle.meaning.specs.Lists.{all}
 use Rattle.meaning.proofs.Elements.{all-test, all-at}
+use Rattle.language.proofs.PrintedLaws.{front-whole, front-within}
 use Rattle.sentences.specs.Words.{Language}
 use Rattle.sentences.specs.English.{english}
 use Rattle.sentences.specs.French.{french}
@@ -163,12 +163,7 @@ module _ (n l : ℕ) {a b : ℕ} {buffer buffer₁ buffer₂ : List ℕ} (z : le
 
 module _ {text out out′ : List ℕ} {r : ℕ} (p : Put text out r out′) where
   pub put-whole : length text ≤ length out → take r out′ ≡ text
-  put-whole h =
-      let n : r ≡ length text = rw (le-ltb (length out) (length text) h) at (p .length-is) in
-      let l : out′ ≡ text ++ drop (length text) out = rw (le-ltb (length out) (length text) h) at (p .left) in
-      ap (take r) l ∙ take-at text (drop (length text) out) r (sym n)
+  put-whole h = front-whole text out (ltb (length out) (length text)) (p .length-is) (p .left) (le-ltb (length out) (length text) h)
 
   pub put-within : length out′ ≡ length out → r ≤ length out′
-  put-within same =
-      by-test (ltb (length out) (length text)) (λ e. omega (arith, rw e at (p .length-is)))
-      (λ e. omega (arith, rw e at (p .length-is), ltb-false (length out) (length text) e))
+  put-within same = front-within text out (ltb (length out) (length text)) (p .length-is) (p .left) same

@@ -7,8 +7,9 @@ use native.Mathlib.Omega.{arith}
 use borrow.Author.Tests.{ne-eqb}
 use lib.Dec.{ltb, eqb}
 use lib.ListN.{length, getD, take, length-append}
-use Rattle.value.proofs.Decides.{by-test, and-parts}
-use Rattle.meaning.specs.Lists.{all}
+use Rattle.value.specs.Bag.{All}
+use Rattle.value.proofs.Decides.{by-test}
+use Rattle.meaning.proofs.Elements.{all-append, all-before, all-behind}
 use Rattle.meaning.specs.Syntax.{File}
 use Rattle.text.specs.Text.{textOf}
 use Rattle.language.specs.Check.{Outcome}
@@ -24,70 +25,52 @@ use Rattle.sentences.specs.English.{english}
 use Rattle.sentences.specs.French.{french}
 use Rattle.sentences.specs.Sentence.{figuresOf, figures, said, sentence, back}
 use Rattle.sentences.specs.SheetOf.{inLines, bothSentences, sheetBy, sheetOf, firstLine, pastLine, SheetSays}
-use Rattle.sentences.proofs.PieceLaws.{unbroken, UnbrokenPieces, english-unbroken, french-unbroken, line-of, past-of}
+use Rattle.sentences.specs.Pieces.{pieces}
+use Rattle.sentences.proofs.PieceLaws.{Unbroken, english-unbroken, french-unbroken, line-of}
 use Rattle.sentences.proofs.SentenceBack.{sentence-back}
 use Rattle.sentences.proofs.RoomLaws.{both-room}
 
 -- ---- no sentence has a LF in it
 
-unbroken-append : (xs ys : List ℕ) → unbroken xs ≡ true → unbroken ys ≡ true → unbroken (xs ++ ys) ≡ true
-unbroken-append [] ys a b = b
-unbroken-append (x ∷ xs) ys a b =
-    let (p, q) = and-parts (not (eqb x 10)) (unbroken xs) a in
-    rw p (unbroken-append xs ys q b)
+figure-unbroken : (d : ℕ) → Unbroken ((d + 48) ∷ [])
+figure-unbroken d = All.cons {x = d + 48} (rw (ne-eqb (d + 48) 10 (λ e. omega arith)) refl) All.nil
 
-figure-unbroken : (d : ℕ) → unbroken ((d + 48) ∷ []) ≡ true
-figure-unbroken d = rw (ne-eqb (d + 48) 10 (λ e. omega arith)) refl
-
-figures-unbroken : (k n : ℕ) → unbroken (figuresOf k n) ≡ true
+figures-unbroken : (k n : ℕ) → Unbroken (figuresOf k n)
 unfolding figuresOf
-figures-unbroken zero n = refl
+figures-unbroken zero n = All.nil
 figures-unbroken (suc k) n =
-    by-test (ltb n 10) (λ t. rw t (figure-unbroken n))
-    (λ t. rw t (unbroken-append (figuresOf k (n / 10)) ((n % 10 + 48) ∷ []) (figures-unbroken k (n / 10)) (figure-unbroken (n % 10))))
+    by-test (ltb n 10) (λ t. rw t (figure-unbroken n)) (λ t. rw t (all-append (figures-unbroken k (n / 10)) (figure-unbroken (n % 10))))
 
-all-getD : (ts : List (List ℕ)) (i : ℕ) → all unbroken ts ≡ true → unbroken (getD ts i []) ≡ true
-all-getD [] i h = refl
-all-getD (t ∷ ts) zero h = and-parts (unbroken t) (all unbroken ts) h .0
-all-getD (t ∷ ts) (suc i) h = all-getD ts i (and-parts (unbroken t) (all unbroken ts) h .1)
+-- an entry that is not there is empty
+entry-unbroken : {ts : List (List ℕ)} → All Unbroken ts → (i : ℕ) → Unbroken (getD ts i [])
+entry-unbroken All.nil i = All.nil
+entry-unbroken (All.cons h hs) zero = h
+entry-unbroken (All.cons h hs) (suc i) = entry-unbroken hs i
 
-all-parts : (ss ts : List (List ℕ)) → all unbroken (ss ++ ts) ≡ true → (all unbroken ss ≡ true) × (all unbroken ts ≡ true)
-all-parts [] ts h = (refl, h)
-all-parts (s ∷ ss) ts h =
-    let (a, b) = and-parts (unbroken s) (all unbroken (ss ++ ts)) h in
-    let (c, d) = all-parts ss ts b in
-    (rw a c, d)
+module _ (w : Language) (n : ℕ) where
+  said-unbroken : {ts : List (List ℕ)} → All Unbroken ts → Unbroken (w .close) → Unbroken (said w ts n)
+  said-unbroken {ts} h c =
+      by-test (ltb 0 n && ltb n (length ts)) (λ k. rw k (entry-unbroken h n))
+      (λ k. rw k (all-append (all-append (entry-unbroken h 0) (figures-unbroken 5 n)) c))
 
-module _ (w : Language) (t : UnbrokenPieces w) (n : ℕ) where
-  said-unbroken : (ts : List (List ℕ)) → all unbroken ts ≡ true → unbroken (w .close) ≡ true → unbroken (said w ts n) ≡ true
-  said-unbroken ts h c =
-      by-test (ltb 0 n && ltb n (length ts)) (λ k. rw k (all-getD ts n h))
-      (λ k. rw k (unbroken-append (getD ts 0 [] ++ figures n) (w .close) (unbroken-append (getD ts 0 []) (figures n) (all-getD ts 0 h) (figures-unbroken 5 n)) c))
-
-  sentence-unbroken : (l : ℕ) → unbroken (sentence w n l) ≡ true
+  sentence-unbroken : All Unbroken (pieces w) → (l : ℕ) → Unbroken (sentence w n l)
   unfolding sentence
-  sentence-unbroken l =
-      let (a, t1) = and-parts (unbroken (w .line)) _ t in
-      let (b, t2) = and-parts (unbroken (w .colon)) _ t1 in
-      let (c, t3) = and-parts (unbroken (w .close)) _ t2 in
-      let (d, e) = all-parts (w .alone) (w .there) t3 in
-      by-test (eqb l 0) (λ k. rw k (said-unbroken (w .alone) d c))
-      (λ k. rw k (unbroken-append (w .line ++ figures l ++ w .colon) (said w (w .there) n)
-      (unbroken-append (w .line ++ figures l) (w .colon) (unbroken-append (w .line) (figures l) a (figures-unbroken 5 l)) b)
-      (said-unbroken (w .there) e c)))
+  sentence-unbroken (All.cons a (All.cons b (All.cons c ts))) l =
+      by-test (eqb l 0) (λ k. rw k (said-unbroken (all-before (w .alone) (w .there) ts) c))
+      (λ k. rw k (all-append (all-append (all-append a (figures-unbroken 5 l)) b) (said-unbroken (all-behind (w .alone) ts) c)))
 
 -- ---- both sentences, line by line
 
 module _ (n l : ℕ) where
-  first-sentence : firstLine (bothSentences n l) ≡ sentence english n l
+  english-line : let s = bothSentences n l in (firstLine s ≡ sentence english n l) × (pastLine s ≡ sentence french n l ++ 10 ∷ [])
   unfolding bothSentences inLines
-  first-sentence = line-of (sentence french n l ++ 10 ∷ []) (sentence english n l) (sentence-unbroken english english-unbroken n l)
+  english-line = line-of (sentence french n l ++ 10 ∷ []) (sentence-unbroken english n english-unbroken l)
+
+  first-sentence : firstLine (bothSentences n l) ≡ sentence english n l
+  first-sentence = english-line .0
 
   second-sentence : firstLine (pastLine (bothSentences n l)) ≡ sentence french n l
-  unfolding bothSentences inLines
-  second-sentence =
-      ap firstLine (past-of (sentence french n l ++ 10 ∷ []) (sentence english n l) (sentence-unbroken english english-unbroken n l))
-      ∙ line-of [] (sentence french n l) (sentence-unbroken french french-unbroken n l)
+  second-sentence = ap firstLine (english-line .1) ∙ line-of [] (sentence-unbroken french n french-unbroken l) .0
 
   both-some : bothSentences n l ≡ [] → ⊥
   unfolding bothSentences inLines

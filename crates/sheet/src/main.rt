@@ -10,9 +10,6 @@ ghost use Rattle.input.specs.Input.{Reads};
 ghost use Rattle.sentences.specs.SheetOf.{sheetOf};
 ghost use Rattle.sentences.specs.Answers.{Put};
 
-// How many bytes of the input settle the sheet: one more than a rule file may have.
-const INPUT: usize = 8193;
-
 const STDOUT: i32 = 1;
 
 const STDERR: i32 = 2;
@@ -61,7 +58,7 @@ fn print_sheet(text: &[u8]) {
 }
 
 fn main() {
-    let mut text = [0u8; INPUT];
+    let mut text = [0u8; input::ROOM];
     let input = read_text(&mut text);
     match input {
         Input::More(n) => print_sheet(&text[..n]),

@@ -1,9 +1,10 @@
 //! A proved program, run on a text.
 #![allow(dead_code)]
 
+use std::fs::File;
 use std::io::{ErrorKind, Write};
 use std::path::{Path, PathBuf};
-use std::process::{ChildStdin, Command, Stdio};
+use std::process::{ChildStdin, Command, Output, Stdio};
 use std::thread;
 use std::time::Duration;
 
@@ -41,27 +42,35 @@ impl Program {
         answer_of(shell, text, text.len().max(1), Duration::ZERO)
     }
 
-    /// What it prints, and says on standard error, with this as its standard input.
-    pub fn run_on(self, input: impl Into<Stdio>) -> (Vec<u8>, String) {
-        let output = Command::new(self.path())
-            .stdin(input)
-            .output()
-            .expect("the program ends");
+    /// What it prints, and says on standard error, where its standard input is a directory, which
+    /// cannot be read.
+    pub fn on_a_directory(self) -> (Vec<u8>, String) {
+        let directory = File::open(env!("CARGO_MANIFEST_DIR")).expect("a directory");
+        let run = self.run(directory, Stdio::piped());
         (
-            output.stdout,
-            String::from_utf8_lossy(&output.stderr).into_owned(),
+            run.stdout,
+            String::from_utf8_lossy(&run.stderr).into_owned(),
         )
     }
 
-    /// What it says on standard error with this as its standard input, and this as its standard
-    /// output.
-    pub fn said_onto(self, input: impl Into<Stdio>, output: impl Into<Stdio>) -> String {
-        let run = Command::new(self.path())
+    /// What it says on standard error for an empty input where its standard output is a full device,
+    /// which takes nothing.
+    pub fn onto_a_full_device(self) -> String {
+        let input = File::open("/dev/null").expect("an empty input");
+        let full = File::options()
+            .write(true)
+            .open("/dev/full")
+            .expect("a full device");
+        let run = self.run(input, full);
+        String::from_utf8_lossy(&run.stderr).into_owned()
+    }
+
+    fn run(self, input: File, output: impl Into<Stdio>) -> Output {
+        Command::new(self.path())
             .stdin(input)
             .stdout(output)
             .output()
-            .expect("the program ends");
-        String::from_utf8_lossy(&run.stderr).into_owned()
+            .expect("the program ends")
     }
 
     fn path(self) -> PathBuf {
