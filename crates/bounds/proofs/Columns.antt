@@ -1,6 +1,6 @@
 -- The range of a column in the catalog, and grouping columns in the frame. Assumes nothing.
 use mathlib.Core.Path.{_≡_, refl, sym, ap, _∙_}
-use mathlib.Core.Bool.{Bool, true, false, _&&_, _||_}
+use mathlib.Core.Bool.{Bool, true, false, not, _&&_, _||_, and-false}
 use mathlib.Core.List.{List, []}
 use Prim.Native.Nat.{ℕ, zero, suc, _+_, _*_, _-_, _≤_, _<_}
 use native.Mathlib.Omega.{arith}
@@ -105,3 +105,8 @@ module _ (frame : List ℕ) (rule : Rule) where
   pub aggregates-are : permittedOf frame rule .aggregates ≡ rule .grouped
   unfolding permittedOf
   aggregates-are = by-test (rule .grouped) (λ t. rw t) (λ t. by-test (rule .filter) (λ u. rw (t, u)) (λ u. rw (t, u)))
+
+  -- and where 17
+  pub exists-are : permittedOf frame rule .exists ≡ (rule .filter && not (rule .grouped))
+  unfolding permittedOf
+  exists-are = by-test (rule .grouped) (λ t. rw (t, and-false)) (λ t. by-test (rule .filter) (λ u. rw (t, u)) (λ u. rw (t, u)))

@@ -17,15 +17,15 @@ use Rattle.bounds.specs.declared.Tested.{Tested}
 
 module _ {frame : List ℕ} {at : ℕ} {items shape : List ℕ} {ends : List ℤ} {rule : Rule} where
   pub encoded-sizes : {r : Sized} → SizesE frame at items shape ends rule r
-      → (e : Expr) (rest : List ℕ) → drop at frame ≡ encodeE e ++ rest → InLimitsE (openIn shape items) e
+      → (n : ℕ) (e : Expr) (rest : List ℕ) → drop at frame ≡ encodeE e ++ rest → InLimitsE (openIn shape n items) e
       → (drop (r .next) frame ≡ rest)
       × (r .allowed ≡ allowedE (permittedOf frame rule) e)
-      × (r .range ≡ rangedE (openRangesIn shape ends items (rule .bound)) e)
-  encoded-sizes s e rest h l = s .sizes e rest (ap (readE (openIn shape items)) h ∙ backE (openIn shape items) e rest l)
+      × (r .range ≡ rangedE (openRangesIn shape ends n items (rule .bound)) e)
+  encoded-sizes s n e rest h l = s .sizes n e rest (ap (readE (openIn shape n items)) h ∙ backE (openIn shape n items) e rest l)
 
   pub encoded-tests : {r : Tested} → TestsC frame at items shape ends rule r
-      → (c : Cond) (rest : List ℕ) → drop at frame ≡ encodeC c ++ rest → InLimitsC (openIn shape items) c
+      → (n : ℕ) (c : Cond) (rest : List ℕ) → drop at frame ≡ encodeC c ++ rest → InLimitsC (openIn shape n items) c
       → (drop (r .next) frame ≡ rest)
       × (r .allowed ≡ allowedC (permittedOf frame rule) c)
-      × (r .within ≡ withinC (openRangesIn shape ends items (rule .bound)) c)
-  encoded-tests s c rest h l = s .tests c rest (ap (readC (openIn shape items)) h ∙ backC (openIn shape items) c rest l)
+      × (r .within ≡ withinC (openRangesIn shape ends n items (rule .bound)) c)
+  encoded-tests s n c rest h l = s .tests n c rest (ap (readC (openIn shape n items)) h ∙ backC (openIn shape n items) c rest l)

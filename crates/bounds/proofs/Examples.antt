@@ -6,12 +6,13 @@ use mathlib.Core.List.{List, [], _∷_}
 use Prim.Native.Nat.{ℕ}
 use lib.IntN.{ℤ, pos, negsuc}
 use Rattle.value.specs.Integer.{minZ, maxZ}
-use Rattle.value.specs.Value.{Operation, Aggregate}
+use Rattle.value.specs.Value.{Operation, Comparison, Aggregate}
 use Rattle.range.specs.Ranges.{constantOf, rangeFrom}
 use Rattle.range.specs.declared.Ranged.{Ranged}
 use Rattle.range.specs.declared.Ranged.the-variants.{Within, Beyond}
-use Rattle.meaning.specs.Syntax.{Expr}
-use Rattle.meaning.specs.Bounds.{allowedE}
+use Rattle.meaning.specs.Syntax.{Expr, Cond}
+use Rattle.meaning.specs.Lists.{listed}
+use Rattle.meaning.specs.Bounds.{OpenRanges, withinC, Permitted, allowedE, allowedC}
 use Rattle.catalog.specs.Arrays.{rangesFrom}
 use Rattle.catalog.specs.Items.{openRangesIn}
 use Rattle.bounds.specs.Walk.{placesFrom, permittedOf, itemRange, rangedE}
@@ -44,8 +45,11 @@ not-there : itemRange shape ends (0 ∷ []) 0 2 ≡ constantOf (pos 0)
 unfolding itemRange rangesFrom
 not-there = refl
 
+abbrev items : OpenRanges
+items = openRangesIn shape ends 1 (0 ∷ []) 4
+
 abbrev answer : Expr → Ranged
-answer e = rangedE (openRangesIn shape ends (0 ∷ []) 4) e
+answer e = rangedE items e
 
 of-a-sum : answer (total (column 1)) ≡ Within (rangeFrom (negsuc 19) (pos 20))
 unfolding rangedE rangesFrom minZ maxZ
@@ -56,11 +60,28 @@ inside-counts : answer (Expr.aggregate Aggregate.count cube) ≡ Beyond
 unfolding rangedE rangesFrom minZ maxZ
 inside-counts = refl
 
+-- 32767 * 32767 * column 1 of from item 1 < 32767
+abbrev second-item : Cond
+second-item =
+    Cond.comparison Comparison.less (Expr.operation Operation.product (Expr.operation Operation.product large large) (Expr.column 1 1)) large
+
+-- that column is -5 to 5 where 17 has opened the table's row
+inside-exists : withinC items (Cond.exists 0 second-item) ≡ false
+unfolding rangesFrom listed minZ maxZ
+inside-exists = refl
+
+-- and 0 to 0 where no such item is open
+outside-exists : withinC items second-item ≡ true
+unfolding rangesFrom listed minZ maxZ
+outside-exists = refl
+
 -- ---- the rule on 07, in having or select
 
+abbrev rule : Bool → Bool → Permitted
+rule grouped filter = permittedOf (0 ∷ 1 ∷ []) (record { bound = 4; grouped = grouped; filter = filter; places = 0; count = 1 })
+
 abbrev permitted : Bool → Expr → Bool
-permitted grouped e =
-    allowedE (permittedOf (0 ∷ 1 ∷ []) (record { bound = 4; grouped = grouped; filter = false; places = 0; count = 1 })) e
+permitted grouped e = allowedE (rule grouped false) e
 
 grouping-column : permitted true (column 1) ≡ true
 unfolding permittedOf placesFrom
@@ -81,3 +102,20 @@ inside-another = refl
 in-where : permitted false (total (column 0)) ≡ false
 unfolding permittedOf placesFrom
 in-where = refl
+
+-- ---- 17 in where, in the select of a basic view, and in having
+
+abbrev looks : Bool → Bool → Bool
+looks grouped filter = allowedC (rule grouped filter) (Cond.exists 0 Cond.always)
+
+exists-in-where : looks false true ≡ true
+unfolding permittedOf
+exists-in-where = refl
+
+exists-in-basic : looks false false ≡ false
+unfolding permittedOf
+exists-in-basic = refl
+
+exists-in-grouped : looks true false ≡ false
+unfolding permittedOf
+exists-in-grouped = refl

@@ -93,7 +93,7 @@ module _ (o : OpenRanges) where
   unfolding isWithin
   ranged-beyond e h = sym (ranged-is e) ∙ ap isWithin h
 
-pub ranged-column : (shape : List ℕ) (ends : List ℤ) (items : List ℕ) (R i c : ℕ)
-    → ranged (itemRange shape ends items i c) ≡ rangedE (openRangesIn shape ends items R) (Expr.column i c)
+pub ranged-column : (shape : List ℕ) (ends : List ℤ) (n : ℕ) (items : List ℕ) (R i c : ℕ)
+    → ranged (itemRange shape ends items i c) ≡ rangedE (openRangesIn shape ends n items R) (Expr.column i c)
 unfolding rangedE ranged itemRange
-ranged-column shape ends items R i c = refl
+ranged-column shape ends n items R i c = refl

@@ -36,6 +36,10 @@ permittedOf frame rule = cond (rule .grouped) (inGrouped (placesFrom frame (rule
 abbrev pub insideOf : Rule → Rule
 insideOf rule = record { bound = rule .bound; grouped = false; filter = false; places = rule .places; count = rule .count }
 
+-- the rule inside 17: that of a where condition
+abbrev pub whereOf : Rule → Rule
+whereOf rule = record { bound = rule .bound; grouped = false; filter = true; places = rule .places; count = rule .count }
+
 -- ---- ranges
 
 -- the range of a column of a from item, 0 to 0 where there is none
@@ -88,30 +92,31 @@ columnSized frame at items shape ends rule =
     let c = getD frame (at + 1) 0 in
     sized (at + 2) (permittedOf frame rule .columns i c) (ranged (itemRange shape ends items i c))
 
--- ---- the walks: of the tree that is read at a position; and where no token of one stands there, that nothing is allowed and nothing fits
+-- ---- the walks: of the tree that is read at a position, n relations being before the view; and where no token of one stands there, that
+-- nothing is allowed and nothing fits
 
 pub record SizesE (frame : List ℕ) (at : ℕ) (items shape : List ℕ) (ends : List ℤ) (rule : Rule) (r : Sized) : Type 0 where
   pub further : at ≤ r .next
   pub no-token : (at < length frame → 0x08 ≤ getD frame at 0) → r ≡ sized at false Beyond
-  pub sizes : (e : Expr) (rest : List ℕ) → readE (openIn shape items) (drop at frame) ≡ Read.ok e rest
+  pub sizes : (n : ℕ) (e : Expr) (rest : List ℕ) → readE (openIn shape n items) (drop at frame) ≡ Read.ok e rest
       → (drop (r .next) frame ≡ rest)
       × (r .allowed ≡ allowedE (permittedOf frame rule) e)
-      × (r .range ≡ rangedE (openRangesIn shape ends items (rule .bound)) e)
+      × (r .range ≡ rangedE (openRangesIn shape ends n items (rule .bound)) e)
 
 -- two expressions, one after the other
 pub record SizesTwo (frame : List ℕ) (at : ℕ) (items shape : List ℕ) (ends : List ℤ) (rule : Rule) (r : TwoSized) : Type 0 where
   pub further : at ≤ r .next
-  pub sizes : (a b : Expr) (mid rest : List ℕ) → readE (openIn shape items) (drop at frame) ≡ Read.ok a mid
-      → readE (openIn shape items) mid ≡ Read.ok b rest
+  pub sizes : (n : ℕ) (a b : Expr) (mid rest : List ℕ) → readE (openIn shape n items) (drop at frame) ≡ Read.ok a mid
+      → readE (openIn shape n items) mid ≡ Read.ok b rest
       → (drop (r .next) frame ≡ rest)
       × (r .allowed ≡ (allowedE (permittedOf frame rule) a && allowedE (permittedOf frame rule) b))
-      × (r .first ≡ rangedE (openRangesIn shape ends items (rule .bound)) a)
-      × (r .second ≡ rangedE (openRangesIn shape ends items (rule .bound)) b)
+      × (r .first ≡ rangedE (openRangesIn shape ends n items (rule .bound)) a)
+      × (r .second ≡ rangedE (openRangesIn shape ends n items (rule .bound)) b)
 
 pub record TestsC (frame : List ℕ) (at : ℕ) (items shape : List ℕ) (ends : List ℤ) (rule : Rule) (r : Tested) : Type 0 where
   pub further : at ≤ r .next
-  pub no-token : (at < length frame → 0x10 ≤ getD frame at 0 → getD frame at 0 < 0x17 → ⊥) → r ≡ tested at false false
-  pub tests : (c : Cond) (rest : List ℕ) → readC (openIn shape items) (drop at frame) ≡ Read.ok c rest
+  pub no-token : (at < length frame → 0x10 ≤ getD frame at 0 → getD frame at 0 < 0x18 → ⊥) → r ≡ tested at false false
+  pub tests : (n : ℕ) (c : Cond) (rest : List ℕ) → readC (openIn shape n items) (drop at frame) ≡ Read.ok c rest
       → (drop (r .next) frame ≡ rest)
       × (r .allowed ≡ allowedC (permittedOf frame rule) c)
-      × (r .within ≡ withinC (openRangesIn shape ends items (rule .bound)) c)
+      × (r .within ≡ withinC (openRangesIn shape ends n items (rule .bound)) c)

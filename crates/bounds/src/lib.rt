@@ -1,13 +1,14 @@
 // The rule on aggregates and the ranges of expressions, on frame bytes.
 use catalog::arrays;
 use catalog::items::Items;
+use catalog::items::opened;
 use catalog::items::relation;
 use range::Range;
 use range::Ranged;
 use slice::byte_at;
 use value::integer;
 ghost use mathlib.Core.Path.{_≡_};
-ghost use mathlib.Core.Bool.{true, _&&_};
+ghost use mathlib.Core.Bool.{true, not, _&&_};
 ghost use Prim.Native.Nat.{_+_, _*_, _≤_};
 ghost use lib.ListN.{length, getD};
 ghost use Rattle.value.specs.Integer.{bytesZ};
@@ -15,7 +16,7 @@ ghost use Rattle.value.specs.Value.{operationAt, aggregateAt};
 ghost use Rattle.range.specs.Ranges.{ranged, constantOf, operatedOf};
 ghost use Rattle.meaning.specs.Bounds.{groupingColumn};
 ghost use Rattle.catalog.specs.Items.{relationsIn};
-ghost use Rattle.bounds.specs.Walk.{placesFrom, permittedOf, insideOf, itemRange, columnSized, operatedR, roundedR, hullR, chosenR, aggregatedR, isWithin, sized, tested, SizesE, SizesTwo, TestsC};
+ghost use Rattle.bounds.specs.Walk.{placesFrom, permittedOf, insideOf, whereOf, itemRange, columnSized, operatedR, roundedR, hullR, chosenR, aggregatedR, isWithin, sized, tested, SizesE, SizesTwo, TestsC};
 
 // Where an expression stands: the row bound, and whether it is in having or select of an aggregate view, whose grouping columns
 // are `count` pairs of bytes (from item, column) at `places` of the frame, or in a where condition.
@@ -154,6 +155,19 @@ fn inside(rule: Rule) -> Rule
     }
 }
 
+// The rule inside 17: that of a where condition.
+fn in_where(rule: Rule) -> Rule
+    ensures { λ r. ⌜ r ≡ whereOf rule ⌝ }
+{
+    Rule {
+        bound: rule.bound,
+        grouped: false,
+        filter: true,
+        places: rule.places,
+        count: rule.count,
+    }
+}
+
 // Kind 0 is the sum, 1 the difference, any other the product.
 fn by_kind(kind: u8, a: Range, b: Range) -> Ranged
     ensures { λ r. ⌜ r ≡ ranged (operatedOf (operationAt kind) a b) ⌝ }
@@ -237,6 +251,18 @@ fn is_within(range: Ranged) -> bool
     }
 }
 
+// 17, which may stand only in a where condition, from the condition behind it.
+// Refused: 17 allowed anywhere.
+fn existing(rule: Rule, test: Tested) -> Tested
+    ensures { λ r. ⌜ r ≡ tested (test .next) ((rule .filter && not (rule .grouped)) && test .allowed) (test .within) ⌝ }
+{
+    testing(
+        test.next,
+        rule.filter & !rule.grouped & test.allowed,
+        test.within,
+    )
+}
+
 // Two expressions, one after the other.
 fn two(frame: &[u8], at: usize, items: Items, shape: &[u8], ends: &[i32], rule: Rule) -> TwoSized
     ensures { λ r. ⌜ SizesTwo (now (frame .entry)) at (relationsIn items) (now (shape .entry)) (now (ends .entry)) rule r ⌝ }
@@ -253,8 +279,8 @@ fn two(frame: &[u8], at: usize, items: Items, shape: &[u8], ends: &[i32], rule: 
     }
 }
 
-// `items` are the from items; `shape` and `ends` are what is known of the relations. Bytes that begin with no expression are not allowed and
-// fit no range; what those give that break off inside one is open, as the checker reads every frame to its end first.
+// `items` are the from items that are open; `shape` and `ends` are what is known of the relations. Bytes that begin with no expression are
+// not allowed and fit no range; what those give that break off inside one is open, as the checker reads every frame to its end first.
 // Refused: the operands of a difference swapped; the token for the kind of an aggregate.
 pub fn expression(
     frame: &[u8],
@@ -297,7 +323,7 @@ pub fn expression(
 }
 
 // The same of a condition.
-// Refused: the range of a second operand lost; the end of the first of two conditions.
+// Refused: the range of a second operand lost; the end of the first of two conditions; the condition behind 17 with no item opened.
 pub fn condition(
     frame: &[u8],
     at: usize,
@@ -326,6 +352,11 @@ pub fn condition(
             let c = condition(frame, body, items, shape, ends, rule);
             let d = condition(frame, c.next, items, shape, ends, rule);
             testing(d.next, c.allowed & d.allowed, c.within & d.within)
+        }
+        0x17 => {
+            let more = opened(items, byte_at(frame, body));
+            let c = condition(frame, body + 1, more, shape, ends, in_where(rule));
+            existing(rule, c)
         }
         _ => testing(at, false, false),
     }

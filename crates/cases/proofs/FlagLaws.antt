@@ -1,22 +1,23 @@
 -- Flags that are set: one, those of the relations that are named, and those of all. Assumes nothing.
 use mathlib.Core.Path.{_≡_, refl, sym, ap, subst, _∙_}
 use mathlib.Core.Logic.{_⊎_, inl, inr, ⊎-elim}
-use mathlib.Core.Bool.{Bool, true, false, true≢false}
+use mathlib.Core.Bool.{Bool, true, false, _&&_, true≢false}
 use mathlib.Core.List.{List, [], _∷_, _++_}
 use Prim.Native.Nat.{ℕ, zero, suc, _+_, _*_, _≤_, _<_}
+use native.Mathlib.Numerals.{add-one}
 use native.Mathlib.Omega.{arith}
 use lib.Dec.{ltb, eqb}
 use lib.ListN.{length, getD, set, take}
 use lib.Seq.{take-suc, take-all, getD-set-same, getD-set-other, set-out}
-use borrow.Author.Tests.{ltb-true, ltb-false, eqb-true, eqb-false}
+use borrow.Author.Tests.{ltb-true, ltb-false, eqb-true, eqb-false, eq-eqb, ne-eqb, lt-ltb, le-ltb}
 use Rattle.value.specs.Bag.{All}
 use Rattle.value.proofs.Decides.{by-test}
 use Rattle.value.proofs.Values.{all-map}
-use Rattle.meaning.proofs.Elements.{all-append, all-before, all-here}
+use Rattle.meaning.proofs.Elements.{all-append, all-before, all-behind, all-here}
 use Rattle.meaning.proofs.Stacks.{by-lt}
 use Rattle.catalog.specs.Arrays.{setNeeded, setAsked}
 use Rattle.catalog.proofs.ArrayLaws.{first-same, first-more, first-set}
-use Rattle.cases.specs.Needs.{Flag, flagOf, More, setFlags, NamesSet, AllSet}
+use Rattle.cases.specs.Needs.{Flag, flagOf, More, setFlags, behindAt, behindTo, NamesSet, AllSet}
 
 -- ---- flags only grow
 
@@ -95,6 +96,11 @@ unfolding setFlags
 flags-snoc m [] b shape = refl
 flags-snoc m (i ∷ is) b shape = flags-snoc m is b (set shape (8 * i + m) 1)
 
+flags-append : (m : ℕ) (is js shape : List ℕ) → setFlags m (is ++ js) shape ≡ setFlags m js (setFlags m is shape)
+unfolding setFlags
+flags-append m [] js shape = refl
+flags-append m (i ∷ is) js shape = flags-append m is js (set shape (8 * i + m) 1)
+
 pub names-none : (m : ℕ) (is shape : List ℕ) → NamesSet m (take 0 is) shape shape
 unfolding setFlags
 names-none m is shape = record { here = refl; more = more-same shape; named = λ z h. All.nil; others = λ k h. refl }
@@ -121,6 +127,58 @@ module _ (m : ℕ) (low : 6 ≤ m) (high : m < 8) where
       let split : take (n + 1) is ≡ take n is ++ (b ∷ []) =
       ap (λ j. take j is) k ∙ take-suc is n 0 h ∙ ap (λ x. take n is ++ (x ∷ [])) (sym r) in
       subst (λ (l : List ℕ). NamesSet m l shape shape″) (sym split) (names-last (take n is) shape shape′ shape″ b s e)
+
+-- those of one list, and then those of another
+pub names-append : {m : ℕ} {is js shape shape′ shape″ : List ℕ} → NamesSet m is shape shape′ → NamesSet m js shape′ shape″ → NamesSet m (is ++ js) shape shape″
+names-append {m} {is} {js} {shape} {shape′} {shape″} s t = record {
+  here = t .here ∙ ap (setFlags m js) (s .here) ∙ sym (flags-append m is js shape);
+  more = more-more (s .more) (t .more);
+  named = λ z h. all-append (more-all (t .more) (s .named z (all-before is js h))) (t .named (s .more .first .size ∙ z) (all-behind is h));
+  others = λ k h. t .others k (all-behind is h) ∙ s .others k (all-before is js h);
+}
+
+-- none, and one
+flags-none : (m : ℕ) (shape : List ℕ) → NamesSet m [] shape shape
+unfolding setFlags
+flags-none m shape = record { here = refl; more = more-same shape; named = λ z h. All.nil; others = λ k h. refl }
+
+flags-one : (m : ℕ) → 6 ≤ m → m < 8 → (b : ℕ) (shape : List ℕ) → NamesSet m (b ∷ []) shape (setFlags m (b ∷ []) shape)
+unfolding setFlags
+flags-one m low high b shape = names-last m low high [] shape shape (set shape (8 * b + m) 1) b (flags-none m shape) refl
+
+-- the relation behind a byte 17, if there is one
+behind-set : (v : ℕ) (frame : List ℕ) (i : ℕ) (shape : List ℕ) {shape′ : List ℕ} → shape′ ≡ setFlags 6 (behindAt v frame i) shape → NamesSet 6 (behindAt v frame i) shape shape′
+unfolding setFlags
+behind-set v frame i shape e = by-test (eqb (getD frame i 0) 0x17 && ltb (getD frame (i + 1) 0) v)
+    (λ t. rw (e, t) (flags-one 6 (omega arith) (omega arith) (getD frame (i + 1) 0) shape))
+    (λ t. rw (e, t) (flags-none 6 shape))
+
+-- as the code finds it
+module _ (v : ℕ) (frame : List ℕ) (i : ℕ) (shape : List ℕ) where
+  pub behind-other : {b : ℕ} → b ≡ getD frame i 0 → (b ≡ 0x17 → ⊥) → shape ≡ setFlags 6 (behindAt v frame i) shape
+  unfolding setFlags
+  behind-other e n = rw (ne-eqb (getD frame i 0) 0x17 (λ q. n (e ∙ q)))
+
+  pub behind-later : {r : ℕ} → r ≡ getD frame (i + 1) 0 → v ≤ r → shape ≡ setFlags 6 (behindAt v frame i) shape
+  unfolding setFlags
+  behind-later e h = by-test (eqb (getD frame i 0) 0x17)
+      (λ t. rw (t, le-ltb (getD frame (i + 1) 0) v (rw (← e) h)))
+      (λ t. rw t)
+
+  pub behind-here : {b r : ℕ} → b ≡ getD frame i 0 → b ≡ 0x17 → r ≡ getD frame (i + 1) 0 → r < v → {shape′ : List ℕ} → shape′ ≡ setNeeded shape r
+      → shape′ ≡ setFlags 6 (behindAt v frame i) shape
+  unfolding setFlags
+  behind-here e t d h p = p ∙ rw (eq-eqb (getD frame i 0) 0x17 (sym e ∙ t), lt-ltb (getD frame (i + 1) 0) v (rw (← d) h)) (ap (λ (j : ℕ). set shape (8 * j + 6) 1) d)
+
+-- those of one place more
+pub behind-none : (v : ℕ) (frame shape : List ℕ) → NamesSet 6 (behindTo v frame 0) shape shape
+unfolding behindTo
+behind-none v frame shape = flags-none 6 shape
+
+pub behind-more : (v : ℕ) (frame : List ℕ) (i : ℕ) {shape shape′ shape″ : List ℕ} → NamesSet 6 (behindTo v frame i) shape shape′
+    → shape″ ≡ setFlags 6 (behindAt v frame i) shape′ → NamesSet 6 (behindTo v frame (i + 1)) shape shape″
+unfolding behindTo
+behind-more v frame i {shape} {shape′} {shape″} s e = rw add-one (names-append s (behind-set v frame i shape′ e))
 
 pub names-all : {m : ℕ} {is shape shape′ : List ℕ} {n : ℕ} → length is ≤ n → NamesSet m (take n is) shape shape′ → NamesSet m is shape shape′
 names-all {m} {is} {shape} {shape′} {n} h s = subst (λ (l : List ℕ). NamesSet m l shape shape′) (take-all n is h) s

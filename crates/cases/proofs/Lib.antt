@@ -2,6 +2,7 @@
 -- the kinds of views, and the relations that a goal depends on
 pub mod ViewKinds
 pub mod FlagLaws
+pub mod LookedInto
 pub mod NeedLaws
 -- primary and foreign keys
 pub mod RowTests

@@ -24,21 +24,24 @@ use Rattle.language.specs.Legal.{Legal}
 use Rattle.language.specs.Written.{viewBytes}
 use Rattle.language.proofs.LegalAccepted.{legal-wellFormed}
 use Rattle.catalog.specs.Arrays.{neededAt, askedAt}
-use Rattle.catalog.specs.Frames.{frameIn, namesIn}
+use Rattle.catalog.specs.Frames.{frameIn, frontNames, namesIn}
 use Rattle.catalog.specs.FileIn.{Source, withFlags, FileIn}
 use Rattle.catalog.specs.declared.plan.Goal.{Goal as GoalHere}
 use Rattle.catalog.proofs.FileLaws.{file-kept}
 use Rattle.catalog.proofs.ViewParts.{view-parts}
-use Rattle.cases.specs.Needs.{Flag, flagOf, Needed, Asked, Asks, ownConditions, More, setFlags, withRows, withSigns, withNeeds, NamesSet, NeedsRows, NeedsSigns, NeedsOf}
+use Rattle.cases.specs.Needs.{Flag, flagOf, Needed, Asked, Asks, ownConditions, More, setFlags, namedIn, withRows, withSigns, withNeeds, NamesSet, NeedsRows, NeedsSigns, NeedsOf}
 use Rattle.cases.proofs.ViewKinds.{kind-own, kind-set}
+use Rattle.cases.proofs.LookedInto.{named-all, named-below, front-below}
 use Rattle.cases.proofs.FlagLaws.{more-same, more-more, more-all, more-set, no-flag, flag-as, flag-low, flag-high, flag-set}
 
 -- ---- what one view needs
 
--- where the frame is a view's, the flags of what the view names are set
-by-names : {m : ℕ} {frame is shape shape′ : List ℕ} → is ≡ namesIn frame → NamesSet m is shape shape′ → (q : View) → frame ≡ viewBytes q
-    → NamesSet m (names q) shape shape′
-by-names {m} {frame} {shape = shape} {shape′} n s q e = subst (λ (l : List ℕ). NamesSet m l shape shape′) (n ∙ view-parts q frame e .1) s
+-- no flag of a relation from v on
+past-flags : (m : ℕ) {v k : ℕ} {is : List ℕ} → All (λ i. i < v) is → ((j : ℕ) → j < v → k ≡ 8 * j + m → ⊥) → All (λ j. k ≡ 8 * j + m → ⊥) is
+past-flags m l h = all-map (λ j b. h j b) l
+
+in-room : {v : ℕ} {is : List ℕ} → v < 16 → All (λ i. i < v) is → All (λ i. i < 16) is
+in-room h l = all-map (λ i b. omega arith) l
 
 or-parts : (a b : Bool) → (a || b) ≡ false → (a ≡ false) × (b ≡ false)
 or-parts true b e = absurd (true≢false e)
@@ -52,33 +55,34 @@ yes-flag e f = e ∙ ap (λ k. eqb k 1) (f .on)
 
 -- by what the flags of view v and the kind of its frame say
 module _ {frame shape : List ℕ} {v : ℕ} {needed asked : Bool} (n : needed ≡ eqb (neededAt shape v) 1) (a : asked ≡ eqb (askedAt shape v) 1) where
-  rows-set : {is shape′ : List ℕ} → (needed || (asked && ltb (getD frame 0 0) 5)) ≡ true → is ≡ namesIn frame → NamesSet 6 is shape shape′
-      → NeedsRows frame shape v shape′
+  rows-set : {shape′ : List ℕ} → (needed || (asked && ltb (getD frame 0 0) 5)) ≡ true → NamesSet 6 (namedIn v frame) shape shape′ → NeedsRows frame shape v shape′
   unfolding withRows
-  rows-set t e s = record {
-    here = rw (← n, ← a, t) (s .here ∙ ap (λ (l : List ℕ). setFlags 6 l shape) e);
+  rows-set {shape′} t s = record {
+    here = rw (← n, ← a, t) (s .here);
     more = s .more;
-    for-rows = λ q d z h f. by-names e s q d .named z h;
-    for-sign = λ q d z h o f. by-names e s q d .named z h;
-    others = λ q d k h. by-names e s q d .others k h;
+    for-rows = λ q d z r l f. all-set q d z r l;
+    for-sign = λ q d z r l o f. all-set q d z r l;
+    others = λ q d l k h. s .others k (past-flags 6 (named-below v q frame d l) h);
   }
+    where
+      all-set : (q : View) → frame ≡ viewBytes q → length shape ≡ 128 → v < 16 → All (λ i. i < v) (names q) → All (Needed shape′) (names q)
+      all-set q d z r l = named-all v frame (s .named z (in-room r (named-below v q frame d l))) q d l
 
   rows-kept : (needed || (asked && ltb (getD frame 0 0) 5)) ≡ false → NeedsRows frame shape v shape
   unfolding withRows
   rows-kept t = record {
     here = rw (← n, ← a, t);
     more = more-same shape;
-    for-rows = λ q d z h f. absurd (no-flag n (or-parts needed _ t .0) f);
-    for-sign = λ q d z h o f.
+    for-rows = λ q d z r l f. absurd (no-flag n (or-parts needed _ t .0) f);
+    for-sign = λ q d z r l o f.
         absurd (true≢false (sym (lt-ltb (getD frame 0 0) 5 (kind-own q d o)) ∙ and-right (yes-flag a f) (or-parts needed _ t .1)));
-    others = λ q d k h. refl;
+    others = λ q d l k h. refl;
   }
 
-  pub rows-needed : {is shape′ : List ℕ} → needed ≡ true → is ≡ namesIn frame → NamesSet 6 is shape shape′ → NeedsRows frame shape v shape′
+  pub rows-needed : {shape′ : List ℕ} → needed ≡ true → NamesSet 6 (namedIn v frame) shape shape′ → NeedsRows frame shape v shape′
   rows-needed t = rows-set (rw t)
 
-  pub rows-asked : {is shape′ : List ℕ} → needed ≡ false → asked ≡ true → getD frame 0 0 < 5 → is ≡ namesIn frame → NamesSet 6 is shape shape′
-      → NeedsRows frame shape v shape′
+  pub rows-asked : {shape′ : List ℕ} → needed ≡ false → asked ≡ true → getD frame 0 0 < 5 → NamesSet 6 (namedIn v frame) shape shape′ → NeedsRows frame shape v shape′
   rows-asked s t h = rows-set (rw (s, t) (lt-ltb (getD frame 0 0) 5 h))
 
   pub rows-unasked : needed ≡ false → asked ≡ false → NeedsRows frame shape v shape
@@ -87,14 +91,25 @@ module _ {frame shape : List ℕ} {v : ℕ} {needed asked : Bool} (n : needed �
   pub rows-of-set : needed ≡ false → asked ≡ true → 5 ≤ getD frame 0 0 → NeedsRows frame shape v shape
   rows-of-set s t h = rows-kept (rw (s, t) (le-ltb (getD frame 0 0) 5 h))
 
+-- where the frame is a view's, the flags of what stands at its front are set
+by-front : {m : ℕ} {frame is shape shape′ : List ℕ} → is ≡ namesIn frame → NamesSet m is shape shape′ → (q : View) → frame ≡ viewBytes q
+    → NamesSet m (frontNames q) shape shape′
+by-front {m} {frame} {shape = shape} {shape′} n s q e = subst (λ (l : List ℕ). NamesSet m l shape shape′) (n ∙ view-parts q frame e .1) s
+
+-- of a set view that is all that it names
+front-all : (q : View) → ownConditions q ≡ false → frontNames q ≡ names q
+front-all (View.basic fs w es) e = absurd (true≢false e)
+front-all (View.grouped fs w gs h es) e = absurd (true≢false e)
+front-all (View.set op i j) e = refl
+
 module _ {frame shape : List ℕ} {v : ℕ} {asked : Bool} (a : asked ≡ eqb (askedAt shape v) 1) where
   signs-set : {is shape′ : List ℕ} → (asked && leb 5 (getD frame 0 0)) ≡ true → is ≡ namesIn frame → NamesSet 7 is shape shape′ → NeedsSigns frame shape v shape′
   unfolding withSigns
   signs-set t e s = record {
     here = rw (← a, t) (s .here ∙ ap (λ (l : List ℕ). setFlags 7 l shape) e);
     more = s .more;
-    for-sign = λ q d z h o f. by-names e s q d .named z h;
-    others = λ q d k h. by-names e s q d .others k h;
+    for-sign = λ q d z r l o f. subst (All (Asked _)) (front-all q o) (by-front e s q d .named z (in-room r (front-below q l)));
+    others = λ q d l k h. by-front e s q d .others k (past-flags 7 (front-below q l) h);
   }
 
   signs-kept : (asked && leb 5 (getD frame 0 0)) ≡ false → NeedsSigns frame shape v shape
@@ -102,8 +117,8 @@ module _ {frame shape : List ℕ} {v : ℕ} {asked : Bool} (a : asked ≡ eqb (a
   signs-kept t = record {
     here = rw (← a, t);
     more = more-same shape;
-    for-sign = λ q d z h o f. absurd (true≢false (sym (le-leb 5 (getD frame 0 0) (kind-set q d o)) ∙ and-right (yes-flag a f) t));
-    others = λ q d k h. refl;
+    for-sign = λ q d z r l o f. absurd (true≢false (sym (le-leb 5 (getD frame 0 0) (kind-set q d o)) ∙ and-right (yes-flag a f) t));
+    others = λ q d l k h. refl;
   }
 
   pub signs-asked : {is shape′ : List ℕ} → asked ≡ true → 5 ≤ getD frame 0 0 → is ≡ namesIn frame → NamesSet 7 is shape shape′ → NeedsSigns frame shape v shape′
@@ -156,9 +171,9 @@ reached-none source = record {
       record { rows = λ u q h e f. absurd (past u q h e); signs = λ u q h e f. absurd (past u q h e) };
 }
 
--- a flag of a relation behind those that are named is as it was
-behind : {v u m n : ℕ} {is : List ℕ} → All (λ i. i < v) is → v ≤ u → m < 8 → n < 8 → All (λ j. 8 * u + m ≡ 8 * j + n → ⊥) is
-behind h k a b = all-map (λ j l e. omega arith) h
+-- a flag of a relation behind those that are named is none of theirs
+behind : {v u m n : ℕ} → v ≤ u → m < 8 → n < 8 → (j : ℕ) → j < v → 8 * u + m ≡ 8 * j + n → ⊥
+behind k a b j l e = omega arith
 
 module _ {source : Source} {v : ℕ} {shape shape₁ shape₂ frame : List ℕ} (r : Reached source v shape) (h : source .outline .tables < v)
     (l : v ≤ source .outline .relations) (place : frame ≡ frameIn (source .bytes) shape (v - 1))
@@ -177,19 +192,18 @@ module _ {source : Source} {v : ℕ} {shape shape₁ shape₂ frame : List ℕ} 
         let old : From F v shape = r .from G₀ in
         let e : frame ≡ viewBytes q₀ = place ∙ G .views (v - 1) q₀ here in
         let below : All (λ i. i < v - 1) (names q₀) = earlier-of F (G .legal) .earlier (v - 1) q₀ here in
-        let in-room : All (λ i. i < 16) (names q₀) = all-map (λ i b. omega (arith, b, few)) below in
         let was-first : (m u : ℕ) → m < 8 → v - 1 ≤ u → Flag m shape₁ u → Flag m shape u = λ m u s k f.
-        flag-as u (x .others q₀ e (8 * u + m) (behind below k s (omega arith))) f in
+        flag-as u (x .others q₀ e below (8 * u + m) (behind k s (omega arith))) f in
         let was-second : (m u : ℕ) → m < 8 → v - 1 ≤ u → Flag m shape₂ u → Flag m shape₁ u = λ m u s k f.
-        flag-as u (y .others q₀ e (8 * u + m) (behind below k s (omega arith))) f in
+        flag-as u (y .others q₀ e below (8 * u + m) (behind k s (omega arith))) f in
         let was : (m u : ℕ) → m < 8 → v - 1 ≤ u → Flag m shape₂ u → Flag m shape u = λ m u s k f. was-first m u s k (was-second m u s k f) in
         let self : v - 1 ≤ v - 1 = omega arith in
         let rows-here : Needed shape₂ (v - 1) → All (Needed shape₂) (names q₀) = λ f.
-        more-all (y .more) (x .for-rows q₀ e (G .sized) in-room (was 6 (v - 1) (omega arith) self f)) in
+        more-all (y .more) (x .for-rows q₀ e (G .sized) few below (was 6 (v - 1) (omega arith) self f)) in
         let signs-here : Asked shape₂ (v - 1) → Asks shape₂ q₀ = λ f.
         asks-all q₀
-        (λ c. more-all (y .more) (x .for-sign q₀ e (G .sized) in-room c (was 7 (v - 1) (omega arith) self f)))
-        (λ c. y .for-sign q₀ e (x .more .first .size ∙ G .sized) in-room c (was-second 7 (v - 1) (omega arith) self f)) in
+        (λ c. more-all (y .more) (x .for-sign q₀ e (G .sized) few below c (was 7 (v - 1) (omega arith) self f)))
+        (λ c. y .for-sign q₀ e (x .more .first .size ∙ G .sized) few below c (was-second 7 (v - 1) (omega arith) self f)) in
         let both : More shape shape₂ = more-more (x .more) (y .more) in
         record {
           rows = λ u q k d f. by-test (eqb u (v - 1))

@@ -2,7 +2,7 @@
 use mathlib.Core.Path.{_≡_}
 use mathlib.Core.Logic.{_⊎_}
 use mathlib.Core.Bool.{Bool, true, false, _&&_, _||_, cond}
-use mathlib.Core.List.{List, [], _∷_}
+use mathlib.Core.List.{List, [], _∷_, _++_}
 use mathlib.Core.Option.{some}
 use Prim.Native.Nat.{ℕ, zero, suc, _+_, _-_, _<_}
 use lib.Dec.{eqb, ltb, leb}
@@ -35,8 +35,8 @@ Asked shape = Flag 7 shape
 
 -- what tells whether a view is negative: the rows of the relations that it names or, of a set view, whether both operands are negative
 abbrev pub Asks : List ℕ → View → Type 0
-Asks shape (View.basic fs w es) = All (Needed shape) fs
-Asks shape (View.grouped fs w gs h es) = All (Needed shape) fs
+Asks shape (View.basic fs w es) = All (Needed shape) (names (View.basic fs w es))
+Asks shape (View.grouped fs w gs h es) = All (Needed shape) (names (View.grouped fs w gs h es))
 Asks shape (View.set op i j) = Asked shape i × Asked shape j
 
 -- what tells of a goal: its sign, or its rows
@@ -73,10 +73,24 @@ unfoldable pub setFlags : ℕ → List ℕ → List ℕ → List ℕ
 setFlags m [] shape = shape
 setFlags m (i ∷ is) shape = setFlags m is (set shape (entry i + m) 1)
 
+-- the relation behind a byte 17 at place i, if it is before relation v. Not every byte 17 is a token, so that more than those into which the
+-- view looks may be named; nobody sees it, as rows that are not asked for change no answer
+abbrev pub behindAt : ℕ → List ℕ → ℕ → List ℕ
+behindAt v frame i = cond (eqb (getD frame i 0) 0x17 && ltb (getD frame (i + 1) 0) v) (getD frame (i + 1) 0 ∷ []) []
+
+-- those of the first n places
+unfoldable pub behindTo : ℕ → List ℕ → ℕ → List ℕ
+behindTo v frame zero = []
+behindTo v frame (suc n) = behindTo v frame n ++ behindAt v frame n
+
+-- the relations at the front of view v's frame, and those behind a byte 17
+abbrev pub namedIn : ℕ → List ℕ → List ℕ
+namedIn v frame = namesIn frame ++ behindTo v frame (length frame)
+
 -- the rows of what view v names are needed: its own are, or it is no set view and its sign is asked
 unfoldable pub withRows : List ℕ → List ℕ → ℕ → List ℕ
 withRows frame shape v =
-    cond (eqb (neededAt shape v) 1 || (eqb (askedAt shape v) 1 && ltb (getD frame 0 0) 5)) (setFlags 6 (namesIn frame) shape) shape
+    cond (eqb (neededAt shape v) 1 || (eqb (askedAt shape v) 1 && ltb (getD frame 0 0) 5)) (setFlags 6 (namedIn v frame) shape) shape
 
 -- the signs of what view v names are asked: it is a set view, and its own is asked
 unfoldable pub withSigns : List ℕ → List ℕ → ℕ → List ℕ
@@ -104,17 +118,17 @@ pub record AllSet (n : ℕ) (shape shape′ : List ℕ) : Type 0 where
 pub record NeedsRows (frame shape : List ℕ) (v : ℕ) (shape′ : List ℕ) : Type 0 where
   pub here : shape′ ≡ withRows frame shape v
   pub more : More shape shape′
-  pub for-rows : (q : View) → frame ≡ viewBytes q → length shape ≡ 128 → All (λ i. i < 16) (names q) → Needed shape v → All (Needed shape′) (names q)
-  pub for-sign : (q : View) → frame ≡ viewBytes q → length shape ≡ 128 → All (λ i. i < 16) (names q) → ownConditions q ≡ true → Asked shape v
+  pub for-rows : (q : View) → frame ≡ viewBytes q → length shape ≡ 128 → v < 16 → All (λ i. i < v) (names q) → Needed shape v → All (Needed shape′) (names q)
+  pub for-sign : (q : View) → frame ≡ viewBytes q → length shape ≡ 128 → v < 16 → All (λ i. i < v) (names q) → ownConditions q ≡ true → Asked shape v
       → All (Needed shape′) (names q)
-  pub others : (q : View) → frame ≡ viewBytes q → (k : ℕ) → All (λ j. k ≡ entry j + 6 → ⊥) (names q) → getD shape′ k 0 ≡ getD shape k 0
+  pub others : (q : View) → frame ≡ viewBytes q → All (λ i. i < v) (names q) → (k : ℕ) → ((j : ℕ) → j < v → k ≡ entry j + 6 → ⊥) → getD shape′ k 0 ≡ getD shape k 0
 
 pub record NeedsSigns (frame shape : List ℕ) (v : ℕ) (shape′ : List ℕ) : Type 0 where
   pub here : shape′ ≡ withSigns frame shape v
   pub more : More shape shape′
-  pub for-sign : (q : View) → frame ≡ viewBytes q → length shape ≡ 128 → All (λ i. i < 16) (names q) → ownConditions q ≡ false → Asked shape v
+  pub for-sign : (q : View) → frame ≡ viewBytes q → length shape ≡ 128 → v < 16 → All (λ i. i < v) (names q) → ownConditions q ≡ false → Asked shape v
       → All (Asked shape′) (names q)
-  pub others : (q : View) → frame ≡ viewBytes q → (k : ℕ) → All (λ j. k ≡ entry j + 7 → ⊥) (names q) → getD shape′ k 0 ≡ getD shape k 0
+  pub others : (q : View) → frame ≡ viewBytes q → All (λ i. i < v) (names q) → (k : ℕ) → ((j : ℕ) → j < v → k ≡ entry j + 7 → ⊥) → getD shape′ k 0 ≡ getD shape k 0
 
 -- which flags are set, of any bytes and arrays; that they are those that the goal depends on, of a file in memory. Every byte that is no flag
 -- stays, so that the file stays in memory

@@ -4,11 +4,11 @@ use catalog::frames;
 use catalog::outline::Outline;
 use catalog::plan::Goal;
 ghost use mathlib.Core.Path.{_≡_};
-ghost use Prim.Native.Nat.{_+_};
-ghost use lib.ListN.{set};
+ghost use Prim.Native.Nat.{_+_, _<_};
+ghost use lib.ListN.{length, set};
 ghost use Rattle.catalog.specs.Arrays.{entry};
 ghost use Rattle.catalog.specs.FileIn.{sourceFrom};
-ghost use Rattle.cases.specs.Needs.{flagOf, NamesSet, AllSet, NeedsRows, NeedsSigns, NeedsOf};
+ghost use Rattle.cases.specs.Needs.{flagOf, setFlags, behindAt, behindTo, namedIn, NamesSet, AllSet, NeedsRows, NeedsSigns, NeedsOf};
 
 // A flag of a relation: that its sign is asked, or that its rows are needed.
 fn set_flag(shape: &mut [u8], r: u8, asked: bool)
@@ -33,6 +33,40 @@ fn set_names(names: &[u8], shape: &mut [u8], asked: bool)
     }
 }
 
+// That the rows of the relation behind a byte 17 at place i are needed, if it is before relation v.
+fn set_behind(frame: &[u8], shape: &mut [u8], i: usize, v: u8)
+    requires { ⌜ i < length (now frame) ⌝ }
+    ensures { λ _. ⌜ now (shape .exit) ≡ setFlags 6 (behindAt v (now (frame .entry)) i) (now (shape .entry)) ⌝ }
+{
+    if slice::byte_at(frame, i) != 0x17 {
+        return;
+    }
+    let named = slice::byte_at(frame, i + 1);
+    if v <= named {
+        return;
+    }
+    arrays::set_needed(shape, named);
+}
+
+// The same at every place of a frame: the relations into which view v looks.
+fn set_looked(frame: &[u8], shape: &mut [u8], v: u8)
+    ensures { λ _. ⌜ NamesSet 6 (behindTo v (now (frame .entry)) (length (now (frame .entry)))) (now (shape .entry)) (now (shape .exit)) ⌝ }
+{
+    let mut i: usize = 0;
+    while i < frame.len() {
+        set_behind(frame, shape, i, v);
+        i += 1;
+    }
+}
+
+// That the rows of all relations that the frame of view v names are needed.
+fn set_named(frame: &[u8], shape: &mut [u8], v: u8)
+    ensures { λ _. ⌜ NamesSet 6 (namedIn v (now (frame .entry))) (now (shape .entry)) (now (shape .exit)) ⌝ }
+{
+    set_names(frames::names(frame), shape, false);
+    set_looked(frame, shape, v);
+}
+
 // Both flags of every relation.
 // Refused: of 15 relations; a flag of relation 16.
 pub fn set_all(shape: &mut [u8])
@@ -51,9 +85,8 @@ pub fn set_all(shape: &mut [u8])
 fn need_rows(frame: &[u8], shape: &mut [u8], v: u8)
     ensures { λ _. ⌜ NeedsRows (now (frame .entry)) (now (shape .entry)) v (now (shape .exit)) ⌝ }
 {
-    let names = frames::names(frame);
     if arrays::is_needed(shape, v) {
-        set_names(names, shape, false);
+        set_named(frame, shape, v);
         return;
     }
     if !arrays::is_asked(shape, v) {
@@ -62,7 +95,7 @@ fn need_rows(frame: &[u8], shape: &mut [u8], v: u8)
     if 5 <= slice::byte_at(frame, 0) {
         return;
     }
-    set_names(names, shape, false);
+    set_named(frame, shape, v);
 }
 
 // The signs that view v asks: those of both operands, if it is a set view and its own is asked.

@@ -9,7 +9,7 @@ use lib.IntN.{ℤ, pos}
 use lib.ListN.{length, getD, set, length-set, List·getD-eq-default, List·getD-append}
 use lib.Seq.{getD-set-same, getD-set-other, getD-append-seam, ext-getD}
 use Rattle.range.specs.declared.Range.{Range}
-use Rattle.range.specs.Ranges.{constantOf, rangeFrom, hullOf}
+use Rattle.range.specs.Ranges.{constantOf, rangeFrom}
 use Rattle.meaning.proofs.Stacks.{by-lt, length-snoc}
 use Rattle.catalog.specs.Arrays.{kindAt, widthAt, boundAt, maskAt, startAt, rangesFrom, putRange, putShape, putStart, FirstKept, putRanges, rangeAt, Outside}
 

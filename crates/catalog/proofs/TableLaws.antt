@@ -4,7 +4,7 @@ use mathlib.Core.Bool.{true, false, or-true, true≢false}
 use mathlib.Core.List.{List, [], _∷_, map}
 use Prim.Native.Nat.{ℕ, zero, suc, _+_, _≤_, _<_}
 use native.Mathlib.Omega.{arith}
-use lib.ListN.{length, getD, set, length-set, length-map}
+use lib.ListN.{length, set, length-set, length-map}
 use lib.Seq.{getD-set-same, getD-set-other}
 use Rattle.meaning.specs.Lists.{isPos, any}
 use Rattle.meaning.specs.Syntax.{Table, File}

@@ -8,10 +8,9 @@ use lib.Seq.{drop-drop, drop-append-seam, take-append-seam}
 use Rattle.value.proofs.Places.{byte-here, two-here}
 use Rattle.meaning.specs.Lists.{joined}
 use Rattle.meaning.specs.Syntax.{Expr, Cond, Place, View, SetOperation}
-use Rattle.meaning.specs.Bounds.{names}
 use Rattle.language.specs.Prefix.{encodeE, encodeC}
 use Rattle.language.specs.Written.{placesBytes, viewBytes}
-use Rattle.catalog.specs.Frames.{kindOf, fromsIn, namesIn, partsIn, partsAfter, setPartsIn}
+use Rattle.catalog.specs.Frames.{kindOf, fromsIn, frontNames, namesIn, partsIn, partsAfter, setPartsIn}
 
 -- what the counts are, and what stands behind them; of a set view, its operands
 abbrev pub PartsAre : List ℕ → View → Type 0
@@ -51,7 +50,7 @@ grouped-parts fs w gs h es =
     let e′ : length fs + 4 ≡ length fs + 2 + 2 = omega arith in
     (b .0, ap (λ i. getD frame i 0) e ∙ b .1, ap (λ i. drop i frame) e′ ∙ b .2 ∙ append-assoc (W ++ P) H S ∙ append-assoc W P (H ++ S))
 
-pub view-parts : (q : View) (frame : List ℕ) → frame ≡ viewBytes q → (getD frame 0 0 ≡ kindOf q) × (namesIn frame ≡ names q) × PartsAre frame q
+pub view-parts : (q : View) (frame : List ℕ) → frame ≡ viewBytes q → (getD frame 0 0 ≡ kindOf q) × (namesIn frame ≡ frontNames q) × PartsAre frame q
 unfolding viewBytes fromsIn namesIn setPartsIn
 view-parts q frame e = rw e (kind q, named q, parts q)
   where
@@ -60,7 +59,7 @@ view-parts q frame e = rw e (kind q, named q, parts q)
     kind (View.grouped fs w gs h es) = refl
     kind (View.set op i j) = refl
 
-    named : (q : View) → namesIn (viewBytes q) ≡ names q
+    named : (q : View) → namesIn (viewBytes q) ≡ frontNames q
     named (View.basic fs w es) = take-append-seam fs (length es ∷ encodeC w ++ joined (map encodeE es))
     named (View.grouped fs w gs h es) = take-append-seam fs (length gs ∷ length es ∷ encodeC w ++ placesBytes gs ++ encodeC h ++ joined (map encodeE es))
     named (View.set SetOperation.union i j) = refl

@@ -1,7 +1,7 @@
 -- Frames in the packed bytes of a file, each behind its length, and the parts of each kind of frame. Assumes nothing: these are definitions,
 -- and they compute.
 use mathlib.Core.Bool.{Bool, cond}
-use mathlib.Core.List.{List}
+use mathlib.Core.List.{List, [], _∷_}
 use Prim.Native.Nat.{ℕ, _+_}
 use lib.Dec.{eqb, ltb}
 use lib.ListN.{getD, take, drop}
@@ -53,7 +53,12 @@ kindOf (View.set op i j) = setKind op
 unfoldable pub fromsIn : List ℕ → List ℕ
 fromsIn frame = take (getD frame 1 0) (drop 2 frame)
 
--- the relations that it names: the from list, or the two operands of a set view
+-- the relations at its front: the from list, or the two operands of a set view
+abbrev pub frontNames : View → List ℕ
+frontNames (View.basic fs w es) = fs
+frontNames (View.grouped fs w gs h es) = fs
+frontNames (View.set op i j) = i ∷ j ∷ []
+
 unfoldable pub namesIn : List ℕ → List ℕ
 namesIn frame = cond (ltb (getD frame 0 0) 5) (fromsIn frame) (take 2 (drop 1 frame))
 

@@ -6,7 +6,7 @@ ghost use mathlib.Core.Path.{_≡_};
 ghost use Prim.Native.Nat.{min};
 ghost use lib.ListN.{getD};
 ghost use Rattle.catalog.specs.Frames.{fromsIn};
-ghost use Rattle.catalog.specs.Items.{bytesAt, relationsIn, itemsOf, widthsIn};
+ghost use Rattle.catalog.specs.Items.{bytesAt, relationsIn, itemsOf, widthsIn, sixWith, openedItems};
 
 // Of the six places the first `number` count.
 pub struct Items {
@@ -72,4 +72,33 @@ pub fn width(items: Items, shape: &[u8], i: u8) -> u8
         return 0;
     }
     arrays::width_of(shape, relation(items, i))
+}
+
+// Six bytes with another at place n.
+// Refused: 0 for the byte; the place for the byte.
+pub fn six_with(bytes: [u8; 6], n: u8, x: u8) -> [u8; 6]
+    ensures { λ r. ⌜ r ≡ sixWith bytes n x ⌝ }
+{
+    let mut six = bytes;
+    if n < 6 {
+        six[n as usize] = x;
+    }
+    six
+}
+
+// The items with one more, the row of a relation; six stay as they are.
+// Refused: five stay as they are; the number as it was.
+pub fn opened(items: Items, relation: u8) -> Items
+    ensures { λ r. ⌜ r ≡ openedItems items relation ⌝ }
+{
+    let number = items.number;
+    if 6 <= number {
+        return items;
+    }
+    let old = items.relations;
+    let relations = six_with(old, number, relation);
+    Items {
+        relations: relations,
+        number: number + 1,
+    }
 }

@@ -2,7 +2,7 @@
 -- frame that is taken keeps it. Assumes nothing.
 use mathlib.Core.Path.{_≡_, refl, sym, ap, subst, _∙_}
 use mathlib.Core.Bool.{Bool, true, false, cond}
-use mathlib.Core.List.{List, [], _∷_, _++_, map}
+use mathlib.Core.List.{List, [], _∷_, _++_}
 use Prim.Native.Nat.{ℕ, zero, suc, _^_, _<_}
 use native.Mathlib.Omega.{arith}
 use lib.Dec.{ltb, eqb}
@@ -13,7 +13,7 @@ use Rattle.meaning.specs.Syntax.{SetOperation}
 use Rattle.language.specs.Reading.{Read, Reader, _>>=_, either, byteIf, openItems, readE, readC}
 use Rattle.language.proofs.Readers.{then-ok}
 use Rattle.meaning.proofs.Stacks.{length-snoc}
-use Rattle.language.specs.Draft.{Draft, Item, empty, added, isTable, isView, width, inOrder, hasRoom}
+use Rattle.language.specs.Draft.{Draft, Item, empty, added, isTable, isView, width, inOrder, hasRoom, schemasOf}
 use Rattle.language.specs.Frames.{repeated, field, ending, columnField, pairField, placeField, fromList, tableFrame, keyFrame, basicFrame, groupedFrame, setFrame, goalFrame, frame, wholeFault, noTable}
 use Rattle.language.specs.Check.{Checked, readChecked, checkFrame}
 use Rattle.checker.specs.FixedFaults.{KeysFit}
@@ -73,13 +73,14 @@ module _ (d : Draft) where
 
   basic-fits : Yields ItemFits (basicFrame d)
   basic-fits = yields-after (fromList d) (λ fs. yields-after (field 1 8) (λ n.
-      yields-after (readC (openItems (map (width d) fs))) (λ w. yields-after (repeated n (readE (openItems (map (width d) fs)))) (λ es. yields-ending _ tt))))
+      let o = openItems (schemasOf d) fs in
+      yields-after (readC o) (λ w. yields-after (repeated n (readE o)) (λ es. yields-ending _ tt))))
 
   grouped-fits : Yields ItemFits (groupedFrame d)
   grouped-fits = yields-after (fromList d) (λ fs. yields-after (field 0 4) (λ g. yields-after (field 1 8) (λ n.
-      let cols = map (width d) fs in
-      yields-after (readC (openItems cols)) (λ w. yields-after (repeated g (placeField cols)) (λ gs.
-      yields-after (readC (openItems cols)) (λ h. yields-after (repeated n (readE (openItems cols))) (λ es. yields-ending _ tt)))))))
+      let o = openItems (schemasOf d) fs in
+      yields-after (readC o) (λ w. yields-after (repeated g (placeField (o .widths))) (λ gs.
+      yields-after (readC o) (λ h. yields-after (repeated n (readE o)) (λ es. yields-ending _ tt)))))))
 
   set-fits : (op : SetOperation) → Yields ItemFits (setFrame d op)
   set-fits op = yields-after (byteIf 6 (isView d)) (λ i. yields-after (byteIf 6 (isView d)) (λ j. yields-ending _ tt))

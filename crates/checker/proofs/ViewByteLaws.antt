@@ -4,6 +4,9 @@
 --     Relations, Repeated          a repetition, as a loop goes through it
 --     select-next .. groups-stop   the parts behind the counts
 -- Assumes nothing.
+use Rattle.language.proofs.Turns.{count-schemas}
+use Rattle.meaning.proofs.Listed.{map-listed}
+use Rattle.meaning.specs.Bounds.{Schema, noSchema}
 use mathlib.Core.Path.{_≡_, refl, sym, ap, _∙_}
 use mathlib.Core.Bool.{Bool}
 use mathlib.Core.List.{List, [], _∷_, map}
@@ -15,16 +18,16 @@ use lib.ListN.{length, getD, drop, take}
 use borrow.Author.Tests.{leb-true, leb-false}
 use Rattle.value.proofs.Decides.{by-test, and-parts}
 use Rattle.value.proofs.Places.{from-byte}
-use Rattle.language.specs.Reading.{Read, Reader, done, andThen, _>>=_, byteIf, place, openItems, readE, readC}
+use Rattle.language.specs.Reading.{Read, Reader, done, andThen, _>>=_, byteIf, place, Open, readE, readC, openItems}
 use Rattle.meaning.proofs.Elements.{all-given, map-same}
 use Rattle.prefix.specs.Skipped.{FormEnd, skipOf, skipped}
 use Rattle.prefix.proofs.Ends.{Ends, Field, ends-done, ends-more, ends-bind, field-if, field-bind, fieldE, fieldC}
 use Rattle.prefix.proofs.Skips.{Landed, lands, field-lands, then-more, then-stop, next-is, level-done, level-bind, level-at}
 use Rattle.catalog.specs.Arrays.{widthAt}
 use Rattle.catalog.specs.Frames.{fromsIn}
-use Rattle.catalog.specs.Items.{bytesAt}
+use Rattle.catalog.specs.Items.{bytesAt, openIn}
 use Rattle.catalog.proofs.ItemLaws.{bytes-length}
-use Rattle.language.specs.Draft.{Draft, width}
+use Rattle.language.specs.Draft.{Draft, width, schemasOf, relationCount}
 use Rattle.language.specs.Frames.{repeated, ending, placeField}
 use Rattle.checker.specs.Faults.{faultOf, faultAt, first, under, within}
 use Rattle.checker.specs.Catalogued.{Catalogued}
@@ -197,6 +200,12 @@ module _ (frame : List ℕ) (count n : ℕ) where
 pub widths-are : {d : Draft} {shape : List ℕ} {ends : List ℤ} → Catalogued d shape ends → (fs : List ℕ) → map (width d) fs ≡ map (widthAt shape) fs
 widths-are {d} {shape} c fs = map-same (width d) (widthAt shape) (all-given (width-known c) fs)
 
+-- what is open over them
+pub opens-are : {d : Draft} {shape : List ℕ} {ends : List ℤ} → Catalogued d shape ends → {n : ℕ} → relationCount d ≡ n → (fs : List ℕ)
+    → openItems (schemasOf d) fs ≡ openIn shape n fs
+opens-are {d} {shape} c {n} e fs =
+    rw (widths-are c fs, map-listed (λ (s : Schema). length (s .ranges)) (schemasOf d) noSchema (widthAt shape) n (count-schemas d ∙ e) (λ i h. width-known c i))
+
 -- ---- what follows a part
 
 module _ (frame : List ℕ) where
@@ -265,45 +274,45 @@ place-field cols =
 
 -- ---- a condition, grouping columns, expressions, the end
 
-module _ (frame cols : List ℕ) (at : ℕ) where
-  module _ (m : ℕ) {n : ℕ} {r : FormEnd} (p : r ≡ skipped frame at (repeated m (readE (openItems cols)))) where
-    pub select-next : {v : ℕ} → at ≤ length frame → r ≡ FormEnd.next n → v ≡ faultAt frame n (ending n) → v ≡ faultAt frame at (selectEnd cols m)
+module _ (frame : List ℕ) (o : Open) (at : ℕ) where
+  module _ (m : ℕ) {n : ℕ} {r : FormEnd} (p : r ≡ skipped frame at (repeated m (readE o))) where
+    pub select-next : {v : ℕ} → at ≤ length frame → r ≡ FormEnd.next n → v ≡ faultAt frame n (ending n) → v ≡ faultAt frame at (selectEnd o m)
     unfolding selectEnd
-    select-next h q e = e ∙ sym (fault-next frame (repeat-lands frame (fieldE (openItems cols)) at m h p q) (λ es. ending es) (λ es. end-any frame n es n))
+    select-next h q e = e ∙ sym (fault-next frame (repeat-lands frame (fieldE o) at m h p q) (λ es. ending es) (λ es. end-any frame n es n))
 
-    pub select-stop : r ≡ FormEnd.refused n → n ≡ faultAt frame at (selectEnd cols m)
+    pub select-stop : r ≡ FormEnd.refused n → n ≡ faultAt frame at (selectEnd o m)
     unfolding selectEnd
-    select-stop q = sym (fault-stop frame (repeated m (readE (openItems cols))) (λ es. ending es) at n p q)
+    select-stop q = sym (fault-stop frame (repeated m (readE o)) (λ es. ending es) at n p q)
 
-  module _ {n : ℕ} {r : FormEnd} (p : r ≡ skipped frame at (readC (openItems cols))) where
-    landed : r ≡ FormEnd.next n → Landed frame (readC (openItems cols)) at n
-    landed q = field-lands frame (fieldC (openItems cols)) at n (sym p ∙ q)
+  module _ {n : ℕ} {r : FormEnd} (p : r ≡ skipped frame at (readC o)) where
+    landed : r ≡ FormEnd.next n → Landed frame (readC o) at n
+    landed q = field-lands frame (fieldC o) at n (sym p ∙ q)
 
     pub condition-inside : r ≡ FormEnd.next n → n ≤ length frame
     condition-inside q = landed q .inside
 
     module _ (m : ℕ) where
-      pub condition-next : {v : ℕ} → r ≡ FormEnd.next n → v ≡ faultAt frame n (selectEnd cols m) → v ≡ faultAt frame at (conditionSelect cols m)
+      pub condition-next : {v : ℕ} → r ≡ FormEnd.next n → v ≡ faultAt frame n (selectEnd o m) → v ≡ faultAt frame at (conditionSelect o m)
       unfolding conditionSelect
-      condition-next q e = e ∙ sym (fault-next frame (landed q) (λ w. selectEnd cols m) (λ w. refl))
+      condition-next q e = e ∙ sym (fault-next frame (landed q) (λ w. selectEnd o m) (λ w. refl))
 
-      pub condition-stop : r ≡ FormEnd.refused n → n ≡ faultAt frame at (conditionSelect cols m)
+      pub condition-stop : r ≡ FormEnd.refused n → n ≡ faultAt frame at (conditionSelect o m)
       unfolding conditionSelect
-      condition-stop q = sym (fault-stop frame (readC (openItems cols)) (λ w. selectEnd cols m) at n p q)
+      condition-stop q = sym (fault-stop frame (readC o) (λ w. selectEnd o m) at n p q)
 
       module _ (g : ℕ) where
-        pub where-stop : r ≡ FormEnd.refused n → n ≡ faultAt frame at (whereGroups cols g m)
+        pub where-stop : r ≡ FormEnd.refused n → n ≡ faultAt frame at (whereGroups o g m)
         unfolding whereGroups
-        where-stop q = sym (fault-stop frame (readC (openItems cols)) (λ w. repeated g (placeField cols) >>= λ gs. conditionSelect cols m) at n p q)
+        where-stop q = sym (fault-stop frame (readC o) (λ w. repeated g (placeField (o .widths)) >>= λ gs. conditionSelect o m) at n p q)
 
-        module _ {s : FormEnd} (q : r ≡ FormEnd.next n) (t : s ≡ skipped frame n (repeated g (placeField cols))) where
-          at-places : faultAt frame at (whereGroups cols g m) ≡ faultAt frame n (repeated g (placeField cols) >>= λ gs. conditionSelect cols m)
+        module _ {s : FormEnd} (q : r ≡ FormEnd.next n) (t : s ≡ skipped frame n (repeated g (placeField (o .widths)))) where
+          at-places : faultAt frame at (whereGroups o g m) ≡ faultAt frame n (repeated g (placeField (o .widths)) >>= λ gs. conditionSelect o m)
           unfolding whereGroups
-          at-places = fault-next frame (landed q) (λ w. repeated g (placeField cols) >>= λ gs. conditionSelect cols m) (λ w. refl)
+          at-places = fault-next frame (landed q) (λ w. repeated g (placeField (o .widths)) >>= λ gs. conditionSelect o m) (λ w. refl)
 
-          pub groups-next : {k v : ℕ} → s ≡ FormEnd.next k → v ≡ faultAt frame k (conditionSelect cols m) → v ≡ faultAt frame at (whereGroups cols g m)
+          pub groups-next : {k v : ℕ} → s ≡ FormEnd.next k → v ≡ faultAt frame k (conditionSelect o m) → v ≡ faultAt frame at (whereGroups o g m)
           groups-next u e =
-              e ∙ sym (at-places ∙ fault-next frame (repeat-lands frame (place-field cols) n g (landed q .inside) t u) (λ gs. conditionSelect cols m) (λ gs. refl))
+              e ∙ sym (at-places ∙ fault-next frame (repeat-lands frame (place-field (o .widths)) n g (landed q .inside) t u) (λ gs. conditionSelect o m) (λ gs. refl))
 
-          pub groups-stop : {k : ℕ} → s ≡ FormEnd.refused k → k ≡ faultAt frame at (whereGroups cols g m)
-          groups-stop u = sym (at-places ∙ fault-stop frame (repeated g (placeField cols)) (λ gs. conditionSelect cols m) n _ t u)
+          pub groups-stop : {k : ℕ} → s ≡ FormEnd.refused k → k ≡ faultAt frame at (whereGroups o g m)
+          groups-stop u = sym (at-places ∙ fault-stop frame (repeated g (placeField (o .widths))) (λ gs. conditionSelect o m) n _ t u)

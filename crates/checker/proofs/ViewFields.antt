@@ -1,7 +1,7 @@
 -- The fields of a view's frame, from what was read. Assumes nothing.
 use mathlib.Core.Path.{_≡_, refl, sym, ap, ap₂, subst, _∙_}
 use mathlib.Core.Bool.{Bool, true, _&&_}
-use mathlib.Core.List.{List, [], _∷_, _++_, map}
+use mathlib.Core.List.{List, [], _∷_, _++_}
 use Prim.Native.Nat.{ℕ, zero, suc, _+_, _*_, _≤_, _<_}
 use native.Mathlib.Omega.{arith}
 use lib.Dec.{ltb, leb}
@@ -12,14 +12,13 @@ use Rattle.value.specs.Bag.{All}
 use Rattle.value.proofs.Decides.{by-test, and-parts}
 use Rattle.value.proofs.Places.{from-byte}
 use Rattle.value.proofs.Values.{all-map}
-use Rattle.meaning.specs.Lists.{all}
 use Rattle.meaning.specs.Syntax.{Expr, Cond, Place, View}
 use Rattle.language.specs.Reading.{Read, Reader, done, andThen, _>>=_, byteIf, openItems, readE, readC}
 use Rattle.language.proofs.Readers.{then-ok}
 use Rattle.catalog.specs.Frames.{fromsIn, partsAfter}
 use Rattle.catalog.specs.declared.frames.Parts.{Parts}
 use Rattle.bounds.specs.Walk.{placesFrom}
-use Rattle.language.specs.Draft.{Draft, Item, relationCount, width}
+use Rattle.language.specs.Draft.{Draft, Item, relationCount, width, schemasOf}
 use Rattle.language.specs.Frames.{repeated, field, ending, fromList, placeField, groupedFrame}
 use Rattle.checker.proofs.FieldLaws.{at-end}
 
@@ -143,8 +142,8 @@ view-read p q (b ∷ bs) rest e = let z : _≡_ {A = ℕ} 0 1 = cc in absurd (om
 -- an aggregate view's frame, part by part
 abbrev pub groupedTrees : Draft → List ℕ → ℕ → ℕ → Reader Item
 groupedTrees d fs g n =
-    let cols = map (width d) fs in
-    readC (openItems cols) >>= λ w. repeated g (placeField cols) >>= λ gs. readC (openItems cols) >>= λ h. repeated n (readE (openItems cols)) >>= λ es.
+    let o = openItems (schemasOf d) fs in
+    readC o >>= λ w. repeated g (placeField (o .widths)) >>= λ gs. readC o >>= λ h. repeated n (readE o) >>= λ es.
     ending (Item.view (View.grouped fs w gs h es))
 
 pub record GroupedTrees (d : Draft) (fs : List ℕ) (g n : ℕ) (bs : List ℕ) (q : View) : Type 0 where
@@ -156,19 +155,19 @@ pub record GroupedTrees (d : Draft) (fs : List ℕ) (g n : ℕ) (bs : List ℕ) 
   pub mid′ : List ℕ
   pub mid″ : List ℕ
   pub rest : List ℕ
-  pub readW : readC (openItems (map (width d) fs)) bs ≡ Read.ok w mid
-  pub readG : repeated g (placeField (map (width d) fs)) mid ≡ Read.ok gs mid′
-  pub readH : readC (openItems (map (width d) fs)) mid′ ≡ Read.ok h mid″
-  pub readS : repeated n (readE (openItems (map (width d) fs))) mid″ ≡ Read.ok es rest
+  pub readW : readC (openItems (schemasOf d) fs) bs ≡ Read.ok w mid
+  pub readG : repeated g (placeField (openItems (schemasOf d) fs .widths)) mid ≡ Read.ok gs mid′
+  pub readH : readC (openItems (schemasOf d) fs) mid′ ≡ Read.ok h mid″
+  pub readS : repeated n (readE (openItems (schemasOf d) fs)) mid″ ≡ Read.ok es rest
   pub same : View.grouped fs w gs h es ≡ q
 
 pub trees-read : (d : Draft) (fs : List ℕ) (g n : ℕ) (bs : List ℕ) (q : View) → groupedTrees d fs g n bs ≡ Read.ok (Item.view q) [] → GroupedTrees d fs g n bs q
 trees-read d fs g n bs q e =
-    let cols = map (width d) fs in
-    let (w, m₁, p₁, q₁) = then-ok (readC (openItems cols) bs) _ e in
-    let (gs, m₂, p₂, q₂) = then-ok (repeated g (placeField cols) m₁) _ q₁ in
-    let (h, m₃, p₃, q₃) = then-ok (readC (openItems cols) m₂) _ q₂ in
-    let (es, m₄, p₄, q₄) = then-ok (repeated n (readE (openItems cols)) m₃) _ q₃ in
+    let o = openItems (schemasOf d) fs in
+    let (w, m₁, p₁, q₁) = then-ok (readC o bs) _ e in
+    let (gs, m₂, p₂, q₂) = then-ok (repeated g (placeField (o .widths)) m₁) _ q₁ in
+    let (h, m₃, p₃, q₃) = then-ok (readC o m₂) _ q₂ in
+    let (es, m₄, p₄, q₄) = then-ok (repeated n (readE o) m₃) _ q₃ in
     record {
       w = w;
       gs = gs;

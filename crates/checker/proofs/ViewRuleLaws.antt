@@ -1,5 +1,7 @@
 -- The rules on a view's frame: what the loop over the select expressions has found, and from the answers of the walks the answer for the
 -- frame that its bytes are read as. Assumes nothing.
+use Rattle.language.proofs.Turns.{count-schemas}
+use Rattle.meaning.proofs.Listed.{listed-same, map-listed}
 use mathlib.Core.Path.{_≡_, refl, sym, ap, ap₂, subst, _∙_}
 use mathlib.Core.Bool.{Bool, true, false, _&&_, cond, and-assoc}
 use mathlib.Core.List.{List, [], _∷_, _++_, foldr, map, map-append}
@@ -19,7 +21,7 @@ use Rattle.range.specs.declared.Ranged.the-variants.{Within, Beyond}
 use Rattle.meaning.specs.Lists.{all}
 use Rattle.meaning.specs.Syntax.{Expr, Cond, Place, View}
 use Rattle.language.specs.Reading.{openItems, readE, readC, Read}
-use Rattle.meaning.specs.Bounds.{Schema, schema, viewSchema, itemRanges, productBound, OpenRanges, openRanges, range, withinE, withinC, allowedE, allowedC, inWhere, inBasic, inGrouped}
+use Rattle.meaning.specs.Bounds.{Schema, schema, viewSchema, itemRanges, productBound, OpenRanges, openRanges, range, withinE, withinC, allowedE, allowedC, inWhere, inBasic, inGrouped, noSchema}
 use Rattle.meaning.proofs.Elements.{all-given, map-same}
 use Rattle.language.proofs.Readers.{then-ok}
 use Rattle.catalog.specs.Arrays.{widthAt, boundAt, rangesFrom, rangesIn, itemsIn, putRange, putShape, Outside}
@@ -41,7 +43,7 @@ use Rattle.checker.specs.declared.view_rules.Opening.{Opening}
 use Rattle.catalog.proofs.ArrayLaws.{put-length, put-next, put-outside, outside-same, outside-wider, outside-more, outside-ranges}
 use Rattle.checker.proofs.EntryLaws.{view-entered}
 use Rattle.checker.proofs.FixedLaws.{bound-known}
-use Rattle.checker.proofs.ViewByteLaws.{widths-are}
+use Rattle.checker.proofs.ViewByteLaws.{opens-are}
 use Rattle.meaning.proofs.ListSteps.{all-snoc}
 use Rattle.checker.proofs.ViewFields.{partsOf, drop-as, times-snoc, byte-read, from-read, places-read, view-read, GroupedRead, grouped-read}
 
@@ -49,19 +51,19 @@ use Rattle.checker.proofs.ViewFields.{partsOf, drop-as, times-snoc, byt
 
 record BasicOf (frame : List ℕ) (P : Parts) (items shape : List ℕ) (ends : List ℤ) (r : ℕ) (ends′ : List ℤ) (a : Ruled) : Type 0 where
   ruled : EntryRoom shape ends items r → length items ≤ 3 → P .width ≤ 8 → (w : Cond) (es : List Expr) (mid rest : List ℕ)
-      → readC (openIn shape items) (drop (P .body) frame) ≡ Read.ok w mid
-      → repeated (P .width) (readE (openIn shape items)) mid ≡ Read.ok es rest
-      → let I = openRangesIn shape ends items (productOf shape items) in
+      → readC (openIn shape r items) (drop (P .body) frame) ≡ Read.ok w mid
+      → repeated (P .width) (readE (openIn shape r items)) mid ≡ Read.ok es rest
+      → let I = openRangesIn shape ends r items (productOf shape items) in
       RuledAs (allowedC inWhere w && all (allowedE inBasic) es) (withinC I w && all (withinE I) es) es I r ends ends′ a
 
 record GroupedOf (frame : List ℕ) (P : Parts) (items shape : List ℕ) (ends : List ℤ) (r : ℕ) (ends′ : List ℤ) (a : Ruled) : Type 0 where
   ruled : EntryRoom shape ends items r → length items ≤ 3 → P .width ≤ 8 → (w : Cond) (gs : List Place) (h : Cond) (es : List Expr)
       (mid mid′ mid″ rest : List ℕ)
-      → readC (openIn shape items) (drop (P .body) frame) ≡ Read.ok w mid
+      → readC (openIn shape r items) (drop (P .body) frame) ≡ Read.ok w mid
       → repeated (P .groups) (placeField (widthsIn shape items)) mid ≡ Read.ok gs mid′
-      → readC (openIn shape items) mid′ ≡ Read.ok h mid″
-      → repeated (P .width) (readE (openIn shape items)) mid″ ≡ Read.ok es rest
-      → let I = openRangesIn shape ends items (productOf shape items) in
+      → readC (openIn shape r items) mid′ ≡ Read.ok h mid″
+      → repeated (P .width) (readE (openIn shape r items)) mid″ ≡ Read.ok es rest
+      → let I = openRangesIn shape ends r items (productOf shape items) in
       RuledAs (allowedC inWhere w && (allowedC (inGrouped gs) h && all (allowedE (inGrouped gs)) es))
       (withinC I w && (withinC I h && all (withinE I) es)) es I r ends ends′ a
 
@@ -89,6 +91,12 @@ items-same shape o w [] All.nil = refl
 items-same shape o w (f ∷ fs) (All.cons h t) =
     ap₂ _∷_ (outside-ranges o f (widthAt shape f) (λ e. omega arith) (w f)) (items-same shape o w fs t)
 
+-- and so is what is open
+open-same : (shape : List ℕ) {r : ℕ} {ends ends′ : List ℤ} → Outside r 8 ends ends′ → ((i : ℕ) → widthAt shape i ≤ 8)
+    → (fs : List ℕ) → All (λ i. i < r) fs → (R : ℕ) → openRangesIn shape ends′ r fs R ≡ openRangesIn shape ends r fs R
+open-same shape {r} {ends} {ends′} o w fs h R =
+    rw (items-same shape o w fs h, listed-same (rangesIn shape ends′) (rangesIn shape ends) r (λ i l. outside-ranges o i (widthAt shape i) (λ e. omega arith) (w i)))
+
 ranged-outside : (ends : List ℤ) (r c : ℕ) (x : Ranged) → Outside r (c + 1) ends (putRanged ends r c x)
 unfolding putRanged
 ranged-outside ends r c (Within x) = put-outside ends r c x (c + 1) (omega arith)
@@ -108,7 +116,7 @@ module _ (frame : List ℕ) (start : ℕ) (items shape : List ℕ) (ends : List 
   -- c expressions have been walked, and the next begins at `at`
   pub record SelectsTo (c : ℕ) (now : List ℤ) (at : ℕ) (allowed within : Bool) : Type 0 where
     pub so-far : Selects frame start c items shape ends r rule now allowed within
-    pub next : (es : List Expr) (rest : List ℕ) → repeated c (readE (openIn shape items)) (drop start frame) ≡ Read.ok es rest → drop at frame ≡ rest
+    pub next : (es : List Expr) (rest : List ℕ) → repeated c (readE (openIn shape r items)) (drop start frame) ≡ Read.ok es rest → drop at frame ≡ rest
 
   pub selects-none : SelectsTo 0 ends start true true
   unfolding rangesFrom
@@ -118,8 +126,8 @@ module _ (frame : List ℕ) (start : ℕ) (items shape : List ℕ) (ends : List 
       selects = λ room l es rest h.
           let e : [] ≡ es = cc in (
             ap (all (allowedE (permittedOf frame rule))) e,
-            ap (all (withinE (openRangesIn shape ends items (rule .bound)))) e,
-            λ _. ap (map (range (openRangesIn shape ends items (rule .bound)))) e,
+            ap (all (withinE (openRangesIn shape ends r items (rule .bound)))) e,
+            λ _. ap (map (range (openRangesIn shape ends r items (rule .bound)))) e,
           );
     };
     next = λ es rest h. cc;
@@ -132,14 +140,14 @@ module _ (frame : List ℕ) (start : ℕ) (items shape : List ℕ) (ends : List 
     so-far = record {
       outside = outside-more (outside-wider (omega arith) (s .so-far .outside)) (rw q (ranged-outside now r c (z .range)));
       selects = λ room l es rest h.
-          let reader = readE (openIn shape items) in
-          let I = openRangesIn shape ends items (rule .bound) in
+          let reader = readE (openIn shape r items) in
+          let I = openRangesIn shape ends r items (rule .bound) in
           let (es₀, x, mid, u, v, w) = times-snoc reader c (drop start frame) es rest (rw (add-one c) at h) in
           let (a, b, ranges) = s .so-far .selects room (omega arith) es₀ mid u in
           let o : Outside r 8 ends now = outside-wider (omega arith) (s .so-far .outside) in
-          let same : itemsIn shape now items ≡ itemsIn shape ends items = items-same shape o (room .widths) items (room .earlier) in
-          let (_, al, rg) = y .sizes x rest (ap reader (s .next es₀ mid u) ∙ v) in
-          let rg′ : z .range ≡ rangedE I x = rg ∙ ap (λ i. rangedE (record { ranges = i; bound = rule .bound }) x) same in
+          let same = open-same shape o (room .widths) items (room .earlier) (rule .bound) in
+          let (_, al, rg) = y .sizes r x rest (ap reader (s .next es₀ mid u) ∙ v) in
+          let rg′ : z .range ≡ rangedE I x = rg ∙ ap (λ i. rangedE i x) same in
           let fit : fits ≡ withinE I x = f ∙ ap isWithin rg′ ∙ ranged-is I x in
           let P = allowedE (permittedOf frame rule) in (
             ap₂ _&&_ a al ∙ sym (all-snoc P es₀ x) ∙ ap (all P) (sym w),
@@ -153,9 +161,9 @@ module _ (frame : List ℕ) (start : ℕ) (items shape : List ℕ) (ends : List 
           );
     };
     next = λ es rest h.
-        let reader = readE (openIn shape items) in
+        let reader = readE (openIn shape r items) in
         let (es₀, x, mid, u, v, w) = times-snoc reader c (drop start frame) es rest (rw (add-one c) at h) in
-        y .sizes x rest (ap reader (s .next es₀ mid u) ∙ v) .0;
+        y .sizes r x rest (ap reader (s .next es₀ mid u) ∙ v) .0;
   }
 
   pub selects-all : (c count : ℕ) (now : List ℤ) (at : ℕ) (allowed within : Bool) → SelectsTo c now at allowed within → c ≤ count → count ≤ c
@@ -193,15 +201,15 @@ groupedRule bound places g = record { bound = bound; grouped = true; filter = fa
 module _ (frame : List ℕ) (P : Parts) (items shape : List ℕ) (ends : List ℤ) (r : ℕ) (ends′ : List ℤ) (a : Ruled) (bound : ℕ) (w′ : Tested)
     (product : ProductBound shape items bound) (t : TestsC frame (P .body) items shape ends (plainRule bound true) w′) where
   abbrev I : ℕ → OpenRanges
-  I = openRangesIn shape ends items
+  I = openRangesIn shape ends r items
 
   basic-ruled : (rule : Rule) → rule ≡ plainRule bound false → Tail frame w′ (P .width) items shape ends r rule ends′ a → BasicOf frame P items shape ends r ends′ a
   unfolding permittedOf
   basic-ruled rule re s = record {
     ruled = λ room few narrow w es mid rest readW readS.
         let s′ = subst (λ k. Tail frame w′ (P .width) items shape ends r k ends′ a) re s in
-        let (next, al, wi) = t .tests w mid readW in
-        let x = s′ .ruled room narrow es rest (ap (repeated (P .width) (readE (openIn shape items))) next ∙ readS) in
+        let (next, al, wi) = t .tests r w mid readW in
+        let x = s′ .ruled room narrow es rest (ap (repeated (P .width) (readE (openIn shape r items))) next ∙ readS) in
         subst (λ R. RuledAs (allowedC inWhere w && all (allowedE inBasic) es) (withinC (I R) w && all (withinE (I R)) es) es (I R) r ends ends′ a)
         (product .product few)
         (ruled-as (ap (λ b. b && all (allowedE inBasic) es) al) (ap (λ b. b && all (withinE (I bound)) es) wi) x);
@@ -216,10 +224,10 @@ module _ (frame : List ℕ) (P : Parts) (items shape : List ℕ) (ends : List �
     ruled = λ room few narrow w gs h es mid mid′ mid″ rest readW readG readH readS.
         let cols = widthsIn shape items in
         let s′ = subst (λ k. Tail frame k (P .width) items shape ends r (groupedRule bound places (P .groups)) ends′ a) he s in
-        let (next, al, wi) = t .tests w mid readW in
+        let (next, al, wi) = t .tests r w mid readW in
         let (gp, gr) = places-read cols frame (P .groups) places gs mid′ (ap (repeated (P .groups) (placeField cols)) (at ∙ next) ∙ readG) in
-        let (next′, al′, wi′) = u .tests h mid″ (ap (readC (openItems cols)) (sym gr) ∙ readH) in
-        let x = s′ .ruled room narrow es rest (ap (repeated (P .width) (readE (openItems cols))) next′ ∙ readS) in
+        let (next′, al′, wi′) = u .tests r h mid″ (ap (readC (openIn shape r items)) (sym gr) ∙ readH) in
+        let x = s′ .ruled room narrow es rest (ap (repeated (P .width) (readE (openIn shape r items))) next′ ∙ readS) in
         let G = inGrouped (placesFrom frame places (P .groups)) in
         let fit : ((w′ .allowed && h′ .allowed) && all (allowedE G) es)
         ≡ (allowedC inWhere w && (allowedC (inGrouped gs) h && all (allowedE (inGrouped gs)) es)) =
@@ -264,8 +272,14 @@ module _ (d : Draft) {shape : List ℕ} {ends : List ℤ} (c : Catalogued d shap
   product-is fs =
       ap (foldr _*_ 1) (map-same (λ i. schema (schemasOf d) i .bound) (boundAt shape) (all-given (bound-known c) fs))
 
-  open-are : (fs : List ℕ) → openRanges (schemasOf d) fs ≡ openRangesIn shape ends fs (productOf shape fs)
-  open-are fs = ap₂ (λ R I. record { ranges = I; bound = R }) (product-is fs) (ranges-are fs)
+  open-are : (r : ℕ) → r ≡ relationCount d → (fs : List ℕ) → openRanges (schemasOf d) fs ≡ openRangesIn shape ends r fs (productOf shape fs)
+  open-are r e fs =
+      rw (
+        product-is fs,
+        ranges-are fs,
+        map-listed (λ (s : Schema). s .ranges) (schemasOf d) noSchema (rangesIn shape ends) r (count-schemas d ∙ sym e)
+            (λ i h. ap (λ (s : Schema). s .ranges) (sym (c .schemas i))),
+      )
 
   module _ (r : ℕ) (e : r ≡ relationCount d) (l : r < 16) where
     room-for : (fs : List ℕ) → All (λ i. i < relationCount d) fs → EntryRoom shape ends fs r
@@ -293,21 +307,22 @@ module _ (d : Draft) {shape : List ℕ} {ends : List ℤ} (c : Catalogued d shap
           let n₀ = getD frame 1 0 in
           let (n, m₂, p₂, q₂) = then-ok (field 1 8 m₁) _ q₁ in
           let (i, j, t, _) = byte-read 5 (λ b. leb 1 b && leb b 8) frame (n₀ + 2) n m₂ (ap (field 1 8) (sym (F .behind)) ∙ p₂) in
-          let (w, m₃, p₃, q₃) = then-ok (readC (openItems (map (width d) fs)) m₂) _ q₂ in
-          let (es, m₄, p₄, q₄) = then-ok (repeated n (readE (openItems (map (width d) fs))) m₃) _ q₃ in
+          let (w, m₃, p₃, q₃) = then-ok (readC (openItems (schemasOf d) fs) m₂) _ q₂ in
+          let (es, m₄, p₄, q₄) = then-ok (repeated n (readE (openItems (schemasOf d) fs)) m₃) _ q₃ in
           let same : View.basic fs w es ≡ q = view-read (View.basic fs w es) q m₄ [] q₄ in
           let B′ = subst (λ k. BasicOf frame (partsOf false frame) k shape ends r ends′ a) (list (six (F .list) (F .few)) ∙ sym (F .list))
           (subst (λ (p : Parts). BasicOf frame p items shape ends r ends′ a) pe B) in
           let start : m₂ ≡ drop (n₀ + 3) frame = j ∙ drop-as frame (n₀ + 2 + 1) (n₀ + 3) (omega arith) in
-          let readW : readC (openIn shape fs) (drop (n₀ + 3) frame) ≡ Read.ok w m₃ = ap₂ (λ cols. readC (openItems cols)) (sym (widths-are c fs)) (sym start) ∙ p₃ in
-          let readS : repeated (getD frame (n₀ + 2) 0) (readE (openIn shape fs)) m₃ ≡ Read.ok es m₄ =
-          ap₂ (λ k cols. repeated k (readE (openItems cols)) m₃) (sym i) (sym (widths-are c fs)) ∙ p₄ in
+          let O = sym (opens-are c (sym e) fs) in
+          let readW : readC (openIn shape r fs) (drop (n₀ + 3) frame) ≡ Read.ok w m₃ = ap₂ (λ o. readC o) O (sym start) ∙ p₃ in
+          let readS : repeated (getD frame (n₀ + 2) 0) (readE (openIn shape r fs)) m₃ ≡ Read.ok es m₄ =
+          ap₂ (λ k o. repeated k (readE o) m₃) (sym i) O ∙ p₄ in
           let few : getD frame (n₀ + 2) 0 ≤ 8 = rw (← i) (leb-true n 8 (and-parts (leb 1 n) (leb n 8) t .1)) in
           let A = allowedC inWhere w && all (allowedE inBasic) es in
           subst (Ruling d r shape ends′ a) same
-          (ruling-of ends′ a (View.basic fs w es) _ _ es (openRangesIn shape ends fs (productOf shape fs))
-          (ap (λ I. cond A (cond (leb (I .bound) 64) (cond (withinC I w && all (withinE I) es) 0 9) 8) 7) (open-are fs))
-          (ap (λ I. record { bound = I .bound; ranges = map (range I) es }) (open-are fs))
+          (ruling-of ends′ a (View.basic fs w es) _ _ es (openRangesIn shape ends r fs (productOf shape fs))
+          (ap (λ I. cond A (cond (leb (I .bound) 64) (cond (withinC I w && all (withinE I) es) 0 9) 8) 7) (open-are r e fs))
+          (ap (λ I. record { bound = I .bound; ranges = map (range I) es }) (open-are r e fs))
           (B′ .ruled (room-for fs (F .earlier)) (F .few) few w es m₃ m₄ readW readS))
 
       grouped-ruling : P ≡ partsOf true frame → GroupedOf frame P items shape ends r ends′ a → GroupedRead d frame q → Ruling d r shape ends′ a q
@@ -319,16 +334,16 @@ module _ (d : Draft) {shape : List ℕ} {ends : List ℤ} (c : Catalogued d shap
           let A = allowedC inWhere (T .w) && (allowedC (inGrouped (T .gs)) (T .h) && all (allowedE (inGrouped (T .gs))) (T .es)) in
           let B′ = subst (λ k. GroupedOf frame p k shape ends r ends′ a) (list (six (G .from .list) (G .from .few)) ∙ sym (G .from .list))
           (subst (λ (p : Parts). GroupedOf frame p items shape ends r ends′ a) pe B) in
-          let W = sym (widths-are c fs) in
+          let O = sym (opens-are c (sym e) fs) in
           subst (Ruling d r shape ends′ a) (T .same)
-          (ruling-of ends′ a (View.grouped fs (T .w) (T .gs) (T .h) (T .es)) _ _ (T .es) (openRangesIn shape ends fs (productOf shape fs))
-          (ap (λ I. cond A (cond (leb (I .bound) 64) (cond (withinC I (T .w) && (withinC I (T .h) && all (withinE I) (T .es))) 0 9) 8) 7) (open-are fs))
-          (ap (λ I. record { bound = I .bound; ranges = map (range I) (T .es) }) (open-are fs))
+          (ruling-of ends′ a (View.grouped fs (T .w) (T .gs) (T .h) (T .es)) _ _ (T .es) (openRangesIn shape ends r fs (productOf shape fs))
+          (ap (λ I. cond A (cond (leb (I .bound) 64) (cond (withinC I (T .w) && (withinC I (T .h) && all (withinE I) (T .es))) 0 9) 8) 7) (open-are r e fs))
+          (ap (λ I. record { bound = I .bound; ranges = map (range I) (T .es) }) (open-are r e fs))
           (B′ .ruled (room-for fs (G .from .earlier)) (G .from .few) (G .narrow) (T .w) (T .gs) (T .h) (T .es) (T .mid) (T .mid′) (T .mid″) (T .rest)
-          (ap (λ cols. readC (openItems cols) (drop (p .body) frame)) W ∙ T .readW)
-          (ap (λ cols. repeated (p .groups) (placeField cols) (T .mid)) W ∙ T .readG)
-          (ap (λ cols. readC (openItems cols) (T .mid′)) W ∙ T .readH)
-          (ap (λ cols. repeated (p .width) (readE (openItems cols)) (T .mid″)) W ∙ T .readS)))
+          (ap (λ o. readC o (drop (p .body) frame)) O ∙ T .readW)
+          (ap (λ o. repeated (p .groups) (placeField (o .widths)) (T .mid)) O ∙ T .readG)
+          (ap (λ o. readC o (T .mid′)) O ∙ T .readH)
+          (ap (λ o. repeated (p .width) (readE o) (T .mid″)) O ∙ T .readS)))
 
 -- ---- the whole frame
 

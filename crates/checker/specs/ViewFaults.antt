@@ -6,11 +6,11 @@ use Prim.Native.Nat.{ℕ, _+_}
 use lib.IntN.{ℤ}
 use lib.ListN.{getD}
 use Rattle.meaning.specs.Syntax.{Expr}
-use Rattle.language.specs.Reading.{Reader, _>>=_, byteIf, openItems, readE, readC}
+use Rattle.language.specs.Reading.{Reader, Open, _>>=_, byteIf, readE, readC}
 use Rattle.language.specs.Draft.{Draft, Item, relationCount}
 use Rattle.language.specs.Frames.{repeated, field, ending, placeField, basicFrame, groupedFrame}
 use Rattle.catalog.specs.Frames.{fromsIn}
-use Rattle.catalog.specs.Items.{itemsOf, relationsIn, widthsIn}
+use Rattle.catalog.specs.Items.{itemsOf, relationsIn, openIn}
 use Rattle.checker.specs.Faults.{faultAt, first, under}
 use Rattle.checker.specs.Catalogued.{Catalogued}
 
@@ -21,32 +21,32 @@ abbrev pub fromsUnder : ℕ → Reader (List ℕ)
 fromsUnder count = field 1 3 >>= λ n. repeated n (byteIf 6 (under count))
 
 -- m select expressions, and nothing behind them
-unfoldable pub selectEnd : List ℕ → ℕ → Reader (List Expr)
-selectEnd cols m = repeated m (readE (openItems cols)) >>= λ es. ending es
+unfoldable pub selectEnd : Open → ℕ → Reader (List Expr)
+selectEnd o m = repeated m (readE o) >>= λ es. ending es
 
 -- a condition before them: a basic view's where, an aggregate view's having
-unfoldable pub conditionSelect : List ℕ → ℕ → Reader (List Expr)
-conditionSelect cols m = readC (openItems cols) >>= λ w. selectEnd cols m
+unfoldable pub conditionSelect : Open → ℕ → Reader (List Expr)
+conditionSelect o m = readC o >>= λ w. selectEnd o m
 
 -- an aggregate view's where, its g grouping columns, and the rest
-unfoldable pub whereGroups : List ℕ → ℕ → ℕ → Reader (List Expr)
-whereGroups cols g m = readC (openItems cols) >>= λ w. repeated g (placeField cols) >>= λ gs. conditionSelect cols m
+unfoldable pub whereGroups : Open → ℕ → ℕ → Reader (List Expr)
+whereGroups o g m = readC o >>= λ w. repeated g (placeField (o .widths)) >>= λ gs. conditionSelect o m
 
 -- the select count before these
-unfoldable pub countedSelect : List ℕ → Reader (List Expr)
-countedSelect cols = field 1 8 >>= λ m. conditionSelect cols m
+unfoldable pub countedSelect : Open → Reader (List Expr)
+countedSelect o = field 1 8 >>= λ m. conditionSelect o m
 
-unfoldable pub countedWhere : List ℕ → ℕ → Reader (List Expr)
-countedWhere cols g = field 1 8 >>= λ m. whereGroups cols g m
+unfoldable pub countedWhere : Open → ℕ → Reader (List Expr)
+countedWhere o g = field 1 8 >>= λ m. whereGroups o g m
 
 -- and an aggregate view's grouping count before it
-unfoldable pub countedGroups : List ℕ → Reader (List Expr)
-countedGroups cols = field 0 4 >>= λ g. countedWhere cols g
+unfoldable pub countedGroups : Open → Reader (List Expr)
+countedGroups o = field 0 4 >>= λ g. countedWhere o g
 
 -- what stands behind the from list of an aggregate or of a basic view
-unfoldable pub behindFroms : Bool → List ℕ → Reader (List Expr)
-behindFroms true cols = countedGroups cols
-behindFroms false cols = countedSelect cols
+unfoldable pub behindFroms : Bool → Open → Reader (List Expr)
+behindFroms true o = countedGroups o
+behindFroms false o = countedSelect o
 
 -- ---- an aggregate or a basic view
 
@@ -60,5 +60,5 @@ ownFrame false d = basicFrame d
 
 -- the first fault of a frame's bytes, whatever the relations before it are: on any bytes and arrays, and for a draft that the arrays stand for
 pub record BytesFault (grouped : Bool) (frame shape : List ℕ) (count r : ℕ) : Type 0 where
-  pub here : r ≡ first (faultAt frame 1 (fromsUnder count)) (faultAt frame (getD frame 1 0 + 2) (behindFroms grouped (widthsIn shape (relationsIn (itemsOf (fromsIn frame))))))
+  pub here : r ≡ first (faultAt frame 1 (fromsUnder count)) (faultAt frame (getD frame 1 0 + 2) (behindFroms grouped (openIn shape count (relationsIn (itemsOf (fromsIn frame))))))
   pub at : (d : Draft) (ends : List ℤ) → Catalogued d shape ends → count ≡ relationCount d → r ≡ faultAt frame 1 (ownFrame grouped d)

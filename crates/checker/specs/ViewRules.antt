@@ -65,10 +65,10 @@ pub record EntryRoom (shape : List ℕ) (ends : List ℤ) (items : List ℕ) (r 
 pub record Selects (frame : List ℕ) (start c : ℕ) (items shape : List ℕ) (ends : List ℤ) (r : ℕ) (rule : Rule) (ends′ : List ℤ) (allowed within : Bool) : Type 0 where
   pub outside : Outside r c ends ends′
   pub selects : EntryRoom shape ends items r → c ≤ 8 → (es : List Expr) (rest : List ℕ)
-      → repeated c (readE (openIn shape items)) (drop start frame) ≡ Read.ok es rest
+      → repeated c (readE (openIn shape r items)) (drop start frame) ≡ Read.ok es rest
       → (allowed ≡ all (allowedE (permittedOf frame rule)) es)
-      × (within ≡ all (withinE (openRangesIn shape ends items (rule .bound))) es)
-      × (within ≡ true → rangesFrom ends′ (16 * r) c ≡ map (range (openRangesIn shape ends items (rule .bound))) es)
+      × (within ≡ all (withinE (openRangesIn shape ends r items (rule .bound))) es)
+      × (within ≡ true → rangesFrom ends′ (16 * r) c ≡ map (range (openRangesIn shape ends r items (rule .bound))) es)
 
 -- what is answered for a view with the select expressions es: `allowed` is the rule on 07, `within` that on ranges, I what is open
 pub record RuledAs (allowed within : Bool) (es : List Expr) (I : OpenRanges) (r : ℕ) (ends ends′ : List ℤ) (a : Ruled) : Type 0 where
@@ -81,10 +81,10 @@ pub record RuledAs (allowed within : Bool) (es : List Expr) (I : OpenRanges) (r 
 pub record Tail (frame : List ℕ) (head : Tested) (count : ℕ) (items shape : List ℕ) (ends : List ℤ) (r : ℕ) (rule : Rule) (ends′ : List ℤ) (a : Ruled) : Type 0 where
   pub outside : Outside r (a .width) ends ends′
   pub ruled : EntryRoom shape ends items r → count ≤ 8 → (es : List Expr) (rest : List ℕ)
-      → repeated count (readE (openIn shape items)) (drop (head .next) frame) ≡ Read.ok es rest
+      → repeated count (readE (openIn shape r items)) (drop (head .next) frame) ≡ Read.ok es rest
       → RuledAs (head .allowed && all (allowedE (permittedOf frame rule)) es)
-      (head .within && all (withinE (openRangesIn shape ends items (rule .bound))) es)
-      es (openRangesIn shape ends items (rule .bound)) r ends ends′ a
+      (head .within && all (withinE (openRangesIn shape ends r items (rule .bound))) es)
+      es (openRangesIn shape ends r items (rule .bound)) r ends ends′ a
 
 -- ---- the whole frame
 

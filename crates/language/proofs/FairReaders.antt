@@ -11,8 +11,11 @@ use lib.ListN.{length, getD}
 use borrow.Author.Tests.{leb-true}
 use Rattle.value.specs.Bag.{All}
 use Rattle.value.proofs.Decides.{and-parts}
+use Rattle.value.specs.Value.{Operation, Comparison, Connective}
 use Rattle.meaning.specs.Syntax.{Expr, Cond}
-use Rattle.language.specs.Reading.{Read, Reader, Open, done, refuse, andThen, _>>=_, byte, either, byteIf, choose, step, place, expressions, conditions, deepE, deepC, readE, readC}
+use Rattle.meaning.specs.Bounds.{innerE, innerC}
+use Rattle.meaning.proofs.Elements.{all-append}
+use Rattle.language.specs.Reading.{Read, Reader, Open, openedItem, done, refuse, andThen, _>>=_, byte, either, byteIf, choose, step, place, existing, expressions, conditions, deepE, deepC, readE, readC}
 use Rattle.language.specs.Frames.{repeated, field, ending}
 use Rattle.language.specs.Legal.{Limits}
 
@@ -108,67 +111,103 @@ fair-times s zero = fair-done (refl, All.nil)
 fair-times s (suc n) = fair-bind s (λ x p. fair-bind (fair-times s n) (λ xs q. fair-done (ap suc (q .0), All.cons p (q .1))))
 
 -- each entry of a table
-data FairAll {A : Type 0} : List (ℕ × Reader A) → Type 0 where
-  none : FairAll []
-  entry : {t : ℕ} {r : Reader A} {more : List (ℕ × Reader A)} → Fair Anything r Anything → FairAll more → FairAll ((t, r) ∷ more)
+data FairAll {A : Type 0} (P : A → Type 0) : List (ℕ × Reader A) → Type 0 where
+  none : FairAll P []
+  entry : {t : ℕ} {r : Reader A} {more : List (ℕ × Reader A)} → Fair Anything r P → FairAll P more → FairAll P ((t, r) ∷ more)
 
-fair-choose : {A : Type 0} {table : List (ℕ × Reader A)} → FairAll table → (t : ℕ) → Fair Anything (choose table t) Anything
+fair-choose : {A : Type 0} {P : A → Type 0} {table : List (ℕ × Reader A)} → FairAll P table → (t : ℕ) → Fair Anything (choose table t) P
 fair-choose none t = fair-refuse four
 fair-choose (entry {t = k} s all) t = fair-either (eqb t k) (λ _. s) (λ _. fair-choose all t)
 
--- ---- expressions and conditions
+-- ---- expressions and conditions: the relations that they name are there
 
-fair-two : {A B C : Type 0} {a : Reader A} {b : Reader B} (g : A → B → C) → Fair Anything a Anything → Fair Anything b Anything → Fair Anything (a >>= λ x. b >>= λ y. done (g x y)) Anything
-fair-two g p q = fair-bind p (λ x _. fair-bind q (λ y _. fair-done tt))
+fair-pair : {A B : Type 0} {P : A → Type 0} {Q : B → Type 0} {a : Reader A} {b : Reader B} → Fair Anything a P → Fair Anything b Q
+    → {C : Type 0} {R : C → Type 0} (g : A → B → C) → ((x : A) (y : B) → P x → Q y → R (g x y)) → Fair Anything (a >>= λ x. b >>= λ y. done (g x y)) R
+fair-pair p q g f = fair-bind p (λ x h. fair-bind q (λ y k. fair-done (f x y h k)))
 
 fair-step : Fair Anything step Anything
 fair-step =
-    fair-bind (fair-two {B = ℕ} _ fair-byte fair-byte) (λ m _. fair-either (leb 1 m && leb m 1000) (λ _. fair-done tt) (λ _. fair-refuse five))
+    fair-bind (fair-pair {Q = Anything} {b = byte} fair-byte fair-byte {C = ℕ} {R = Anything} _ (λ _ _ _ _. tt))
+    (λ m _. fair-either (leb 1 m && leb m 1000) (λ _. fair-done tt) (λ _. fair-refuse five))
+
+-- each is before relation n
+abbrev pub Before : ℕ → List ℕ → Type 0
+Before n is = All (λ i. ltb i n ≡ true) is
+
+abbrev pub FairE : Open → Reader Expr → Type 0
+FairE o e = Fair Anything e (λ x. Before (length (o .relations)) (innerE x))
+
+abbrev pub FairC : Open → Reader Cond → Type 0
+FairC o c = Fair Anything c (λ x. Before (length (o .relations)) (innerC x))
 
 module _ (o : Open) where
-  fair-place : Fair Anything (place (o .widths)) Anything
-  fair-place =
-      fair-bind (fair-byteIf (λ i. ltb i (length (o .widths))) six) (λ i _. fair-bind (fair-byteIf (λ c. ltb c (getD (o .widths) i 0)) six) (λ c _. fair-done tt))
+  abbrev E : Expr → Type 0
+  E x = Before (length (o .relations)) (innerE x)
 
-  module _ {e : Reader Expr} {c : Reader Cond} (fe : Fair Anything e Anything) (fc : Fair Anything c Anything) where
-    fair-expressions : FairAll (expressions o e c)
-    fair-expressions =
-        entry (fair-two _ fair-byte fair-byte)
+  abbrev C : Cond → Type 0
+  C x = Before (length (o .relations)) (innerC x)
+
+  fair-place : FairE o (place (o .widths))
+  fair-place = fair-bind (fair-byteIf (λ i. ltb i (length (o .widths))) six) (λ i _.
+      fair-bind (fair-byteIf (λ c. ltb c (getD (o .widths) i 0)) six) (λ c _. fair-done All.nil))
+
+  module _ {e : Reader Expr} (fe : FairE o e) where
+    fair-operation : (op : Operation) → FairE o (e >>= λ a. e >>= λ b. done (Expr.operation op a b))
+    fair-operation op = fair-pair fe fe _ (λ a b p q. all-append p q)
+
+    fair-comparison : (op : Comparison) → FairC o (e >>= λ a. e >>= λ b. done (Cond.comparison op a b))
+    fair-comparison op = fair-pair fe fe _ (λ a b p q. all-append p q)
+
+    fair-expressions : {c : Reader Cond} → FairC o c → FairAll E (expressions o e c)
+    fair-expressions fc =
+        entry (fair-pair fair-byte fair-byte _ (λ h l _ _. All.nil))
         (entry fair-place
-        (entry (fair-two _ fe fe)
-        (entry (fair-two _ fe fe)
-        (entry (fair-two _ fe fe)
-        (entry (fair-two _ fair-step fe)
-        (entry (fair-bind fc (λ t _. fair-two _ fe fe))
-        (entry (fair-bind (fair-byteIf (λ n. leb n 3) five) (λ n _. fair-bind fe (λ a _. fair-done tt)))
+        (entry (fair-operation Operation.sum)
+        (entry (fair-operation Operation.difference)
+        (entry (fair-operation Operation.product)
+        (entry (fair-pair fair-step fe _ (λ m a _ p. p))
+        (entry (fair-bind fc (λ t h. fair-pair fe fe _ (λ a b p q. all-append h (all-append p q))))
+        (entry (fair-bind (fair-byteIf (λ n. leb n 3) five) (λ n _. fair-bind fe (λ a p. fair-done p)))
         none)))))))
 
-    fair-conditions : FairAll (conditions e c)
-    fair-conditions =
-        entry (fair-done tt)
-        (entry (fair-two _ fe fe)
-        (entry (fair-two _ fe fe)
-        (entry (fair-two _ fe fe)
-        (entry (fair-bind fc (λ t _. fair-done tt))
-        (entry (fair-two _ fc fc)
-        (entry (fair-two _ fc fc)
-        none))))))
+  module _ {c : Open → Reader Cond} (fc : (o : Open) → FairC o (c o)) where
+    fair-connection : (op : Connective) → FairC o (c o >>= λ s. c o >>= λ t. done (Cond.connection op s t))
+    fair-connection op = fair-pair (fc o) (fc o) _ (λ s t p q. all-append p q)
 
-  mutual
-    unfolding deepE
+    fair-existing : FairC o (existing o c)
+    fair-existing = fair-either (ltb (length (o .widths)) 6)
+        (λ _. fair-bind (fair-byteIf (λ i. ltb i (length (o .relations))) six) (λ i h.
+        fair-bind (fc (openedItem o i)) (λ t k. fair-done (All.cons h k))))
+        (λ _. fair-refuse five)
 
-    deep-fairE : (n : ℕ) → Fair Anything (deepE o n) Anything
-    deep-fairE zero = fair-refuse four
-    deep-fairE (suc n) = fair-bind fair-byte (λ t _. fair-choose (fair-expressions (deep-fairE n) (deep-fairC n)) t)
+    fair-conditions : {e : Reader Expr} → FairE o e → FairAll C (conditions o e c)
+    fair-conditions fe =
+        entry (fair-done All.nil)
+        (entry (fair-comparison fe Comparison.equal)
+        (entry (fair-comparison fe Comparison.less)
+        (entry (fair-comparison fe Comparison.lessEqual)
+        (entry (fair-bind (fc o) (λ t p. fair-done p))
+        (entry (fair-connection Connective.conjunction)
+        (entry (fair-connection Connective.disjunction)
+        (entry fair-existing
+        none)))))))
 
-    deep-fairC : (n : ℕ) → Fair Anything (deepC o n) Anything
-    deep-fairC zero = fair-refuse four
-    deep-fairC (suc n) = fair-bind fair-byte (λ t _. fair-choose (fair-conditions (deep-fairE n) (deep-fairC n)) t)
+mutual
+  unfolding deepE
 
-  pub fairE : Fair Anything (readE o) Anything
+  deep-fairE : (o : Open) (n : ℕ) → FairE o (deepE o n)
+  deep-fairE o zero = fair-refuse four
+  deep-fairE o (suc n) = fair-bind fair-byte (λ t _. fair-choose (fair-expressions o (deep-fairE o n) (deep-fairC o n)) t)
+
+  deep-fairC : (o : Open) (n : ℕ) → FairC o (deepC o n)
+  deep-fairC o zero = fair-refuse four
+  deep-fairC o (suc n) = fair-bind fair-byte (λ t _. fair-choose (fair-conditions o (λ p. deep-fairC p n) (deep-fairE o n)) t)
+
+module _ (o : Open) where
+  pub fairE : FairE o (readE o)
   unfolding readE
-  fairE = record { good = λ bs. deep-fairE (length bs) .good bs }
+  fairE = record { good = λ bs. deep-fairE o (length bs) .good bs }
 
-  pub fairC : Fair Anything (readC o) Anything
+  pub fairC : FairC o (readC o)
   unfolding readC
-  fairC = record { good = λ bs. deep-fairC (length bs) .good bs }
+  fairC = record { good = λ bs. deep-fairC o (length bs) .good bs }

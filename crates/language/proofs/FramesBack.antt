@@ -16,12 +16,12 @@ use Rattle.value.proofs.Linear.{true-leZ, ints}
 use Rattle.value.proofs.TwosComplement.{bytes-back}
 use Rattle.value.proofs.Values.{all-map}
 use Rattle.meaning.specs.Lists.{joined}
-use Rattle.meaning.specs.Syntax.{Expr, Cond, Place, Pair, SetOperation, View, Table, ForeignKey, Goal}
+use Rattle.meaning.specs.Syntax.{Expr, Cond, Place, Pair, SetOperation, Table, ForeignKey, Goal, View}
 use Rattle.language.specs.Prefix.{encodeE, encodeC}
-use Rattle.language.specs.Reading.{Read, Reader, done, refuse, either, byteIf, Open, openItems, readE, InLimitsE}
+use Rattle.language.specs.Reading.{Reader, done, refuse, either, byteIf, Open, openItems, readE, InLimitsE, Read}
 use Rattle.language.proofs.Readers.{one}
 use Rattle.language.proofs.PrefixForms.{constant-fits, backE, backC}
-use Rattle.language.specs.Draft.{Draft, Item, relationCount, isView, width, schemasOf}
+use Rattle.language.specs.Draft.{Draft, relationCount, isView, schemasOf, Item}
 use Rattle.language.specs.Frames.{repeated, maskBits, columnField, tableFrame, pairField, keyFrame, fromList, basicFrame, placeField, groupedFrame, setFrame, goalFrame}
 use Rattle.language.specs.Legal.{Limits, LegalColumn, LegalTable, LegalPair, KeyFields, LegalFrom, LegalPlace, LegalBasic, LegalGrouped, NamesView, LegalSet, widths}
 use Rattle.language.specs.Written.{columnBytes, maskOf}
@@ -101,28 +101,28 @@ module _ (d : Draft) where
   pub basic-back : (fs : List ℕ) (w : Cond) (es : List Expr) → LegalBasic (schemasOf d) fs w es
       → basicFrame d (length fs ∷ fs ++ (length es ∷ encodeC w ++ joined (map encodeE es))) ≡ Read.ok (Item.view (View.basic fs w es)) []
   basic-back fs w es h =
-      let cols = widths (schemasOf d) fs in
+      let o = openItems (schemasOf d) fs in
       rw (
         from-back fs _ (h .relations),
         limits-true (h .select .count),
-        backC (openItems cols) w _ (h .condition),
-        times-end (all-map (expression-back (openItems cols)) (h .select .limits)),
+        backC o w _ (h .condition),
+        times-end (all-map (expression-back o) (h .select .limits)),
       )
 
   pub grouped-back : (fs : List ℕ) (w : Cond) (gs : List Place) (v : Cond) (es : List Expr) → LegalGrouped (schemasOf d) fs w gs v es
       → groupedFrame d (length fs ∷ fs ++ (length gs ∷ length es ∷ encodeC w ++ joined (map placeBytes gs) ++ encodeC v ++ joined (map encodeE es)))
       ≡ Read.ok (Item.view (View.grouped fs w gs v es)) []
   grouped-back fs w gs v es h =
-      let cols = widths (schemasOf d) fs in
+      let o = openItems (schemasOf d) fs in
       rw (
         from-back fs _ (h .relations),
         limits-true (h .count),
         limits-true (h .select .count),
         regroup (encodeC w) (joined (map placeBytes gs)) (encodeC v) (joined (map encodeE es)),
-        backC (openItems cols) w _ (h .condition),
-        times-back (all-map (place-back cols) (h .grouping)) _,
-        backC (openItems cols) v _ (h .having),
-        times-end (all-map (expression-back (openItems cols)) (h .select .limits)),
+        backC o w _ (h .condition),
+        times-back (all-map (place-back (o .widths)) (h .grouping)) _,
+        backC o v _ (h .having),
+        times-end (all-map (expression-back o) (h .select .limits)),
       )
 
   is-view : {r i : ℕ} → r ≡ relationCount d → NamesView (length (d .tables)) r i → isView d i ≡ true

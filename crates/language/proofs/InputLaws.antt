@@ -8,7 +8,7 @@ use lib.Dec.{ltb}
 use lib.ListN.{length, take, replicate, length-take, length-replicate}
 use lib.Seq.{take-all}
 use Rattle.value.proofs.Decides.{by-test}
-use Rattle.text.specs.Text.{Lines, linesOf, framesOf}
+use Rattle.text.specs.Text.{linesOf}
 use Rattle.text.proofs.Refusals.{empty-refused, long-refused, lines-within}
 use Rattle.text.proofs.Runs.{run-empty}
 use Rattle.language.specs.Check.{Outcome}

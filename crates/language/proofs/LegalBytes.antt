@@ -19,9 +19,9 @@ use Rattle.value.proofs.Values.{all-map}
 use Rattle.meaning.specs.Lists.{joined}
 use Rattle.meaning.specs.Syntax.{Expr, Cond, Place, Pair, SetOperation, View, Table, ForeignKey, Goal, File}
 use Rattle.language.specs.Prefix.{operationToken, comparisonToken, connectiveToken, aggregateByte, encodeE, encodeC}
-use Rattle.language.specs.Reading.{openItems, InLimitsE, InLimitsC}
+use Rattle.language.specs.Reading.{Open, openItems, openedItem, InLimitsE, InLimitsC}
 use Rattle.meaning.specs.Bounds.{Schema, schema, noSchema, tableSchema, viewSchema}
-use Rattle.meaning.proofs.Elements.{all-append, all-at, all-image}
+use Rattle.meaning.proofs.Elements.{all-append, all-at, all-image, all-joined}
 use Rattle.meaning.proofs.Sizes.{length-setRanges}
 use Rattle.language.proofs.PrefixForms.{constant-fits}
 use Rattle.language.proofs.Readers.{Byte}
@@ -34,10 +34,6 @@ use Rattle.language.proofs.SoundFrames.{pairBytes, placeBytes}
 -- one byte more
 put : (b : ℕ) {bs : List ℕ} → Byte b → All Byte bs → All Byte (b ∷ bs)
 put b p ps = All.cons p ps
-
-all-joined : {A : Type 0} {enc : A → List ℕ} {xs : List A} → All (λ x. All Byte (enc x)) xs → All Byte (joined (map enc xs))
-all-joined All.nil = All.nil
-all-joined (All.cons p ps) = all-append p (all-joined ps)
 
 -- ---- sixteen bits
 
@@ -75,32 +71,49 @@ aggregate-byte Aggregate.sum = omega arith
 aggregate-byte Aggregate.minimum = omega arith
 aggregate-byte Aggregate.maximum = omega arith
 
-module _ (cols : List ℕ) (few : length cols ≤ 3) (narrow : All (λ c. c ≤ 8) cols) where
-  item-byte : {i : ℕ} → i < length cols → Byte i
-  item-byte h = omega arith
+-- what is open is in the limits of a byte
+record SmallOpen (o : Open) : Type 0 where
+  few : length (o .widths) ≤ 6
+  widths : All (λ c. c ≤ 8) (o .widths)
+  count : length (o .relations) ≤ 16
+  relations : All (λ c. c ≤ 8) (o .relations)
 
-  column-byte : {i c : ℕ} → i < length cols → c < getD cols i 0 → Byte c
-  column-byte {i} h k = omega (arith, all-at narrow 0 i h)
+module _ {o : Open} (small : SmallOpen o) where
+  item-byte : {i : ℕ} → i < length (o .widths) → Byte i
+  item-byte h = omega (arith, small .few)
 
-  mutual
-    unfolding encodeE InLimitsE
+  column-byte : {i c : ℕ} → i < length (o .widths) → c < getD (o .widths) i 0 → Byte c
+  column-byte {i} h k = omega (arith, all-at (small .widths) 0 i h)
 
-    bytesE : (e : Expr) → InLimitsE (openItems cols) e → All Byte (encodeE e)
-    bytesE (Expr.constant z) h = put 0x00 (omega arith) (All.cons (high-limit z (h .0) (h .1)) (All.cons (low-limit z (h .0) (h .1)) All.nil))
-    bytesE (Expr.column i c) h = put 0x01 (omega arith) (All.cons (item-byte (h .0)) (All.cons (column-byte (h .0) (h .1)) All.nil))
-    bytesE (Expr.operation op a b) h = All.cons (operation-byte op) (all-append (bytesE a (h .0)) (bytesE b (h .1)))
-    bytesE (Expr.rounding m a) h = put 0x05 (omega arith) (put (m / 256) (omega (arith, h .1)) (put (m % 256) (omega arith) (bytesE a (h .2))))
-    bytesE (Expr.choice c a b) h = put 0x06 (omega arith) (all-append (all-append (bytesC c (h .0)) (bytesE a (h .1))) (bytesE b (h .2)))
-    bytesE (Expr.aggregate op a) h = put 0x07 (omega arith) (All.cons (aggregate-byte op) (bytesE a h))
+  -- one more item
+  small-opened : length (o .widths) < 6 → {i : ℕ} → i < length (o .relations) → SmallOpen (openedItem o i)
+  small-opened l {i} h = record {
+    few = omega (arith, length-snoc (o .widths) (getD (o .relations) i 0));
+    widths = all-append (small .widths) (All.cons (all-at (small .relations) 0 i h) All.nil);
+    count = small .count;
+    relations = small .relations;
+  }
 
-    bytesC : (c : Cond) → InLimitsC (openItems cols) c → All Byte (encodeC c)
-    bytesC Cond.always h = put 0x10 (omega arith) All.nil
-    bytesC (Cond.comparison op a b) h = All.cons (comparison-byte op) (all-append (bytesE a (h .0)) (bytesE b (h .1)))
-    bytesC (Cond.negated c) h = put 0x14 (omega arith) (bytesC c h)
-    bytesC (Cond.connection op c d) h = All.cons (connective-byte op) (all-append (bytesC c (h .0)) (bytesC d (h .1)))
+mutual
+  unfolding encodeE InLimitsE
 
-  place-bytes : (p : Place) → LegalPlace cols p → All Byte (placeBytes p)
-  place-bytes p h = All.cons (item-byte (h .item)) (All.cons (column-byte (h .item) (h .column)) All.nil)
+  bytesE : {o : Open} → SmallOpen o → (e : Expr) → InLimitsE o e → All Byte (encodeE e)
+  bytesE s (Expr.constant z) h = put 0x00 (omega arith) (All.cons (high-limit z (h .0) (h .1)) (All.cons (low-limit z (h .0) (h .1)) All.nil))
+  bytesE s (Expr.column i c) h = put 0x01 (omega arith) (All.cons (item-byte s (h .0)) (All.cons (column-byte s (h .0) (h .1)) All.nil))
+  bytesE s (Expr.operation op a b) h = All.cons (operation-byte op) (all-append (bytesE s a (h .0)) (bytesE s b (h .1)))
+  bytesE s (Expr.rounding m a) h = put 0x05 (omega arith) (put (m / 256) (omega (arith, h .1)) (put (m % 256) (omega arith) (bytesE s a (h .2))))
+  bytesE s (Expr.choice c a b) h = put 0x06 (omega arith) (all-append (all-append (bytesC s c (h .0)) (bytesE s a (h .1))) (bytesE s b (h .2)))
+  bytesE s (Expr.aggregate op a) h = put 0x07 (omega arith) (All.cons (aggregate-byte op) (bytesE s a h))
+
+  bytesC : {o : Open} → SmallOpen o → (c : Cond) → InLimitsC o c → All Byte (encodeC c)
+  bytesC s Cond.always h = put 0x10 (omega arith) All.nil
+  bytesC s (Cond.comparison op a b) h = All.cons (comparison-byte op) (all-append (bytesE s a (h .0)) (bytesE s b (h .1)))
+  bytesC s (Cond.negated c) h = put 0x14 (omega arith) (bytesC s c h)
+  bytesC s (Cond.connection op c d) h = All.cons (connective-byte op) (all-append (bytesC s c (h .0)) (bytesC s d (h .1)))
+  bytesC s (Cond.exists i c) h = put 0x17 (omega arith) (put i (omega (arith, h .1, s .count)) (bytesC (small-opened s (h .0) (h .1)) c (h .2)))
+
+place-bytes : {o : Open} → SmallOpen o → (p : Place) → LegalPlace (o .widths) p → All Byte (placeBytes p)
+place-bytes s p h = All.cons (item-byte s (h .item)) (All.cons (column-byte s (h .item) (h .column)) All.nil)
 
 -- ---- tables and foreign keys
 
@@ -155,14 +168,16 @@ module _ (t : ℕ) (ss : List Schema) (n : length ss ≤ 16) (narrow : All Narro
   from-bytes : (fs : List ℕ) → LegalFrom ss fs → All Byte fs
   from-bytes fs h = all-map (λ i k. omega arith) (h .earlier)
 
-  from-few : (fs : List ℕ) → LegalFrom ss fs → length (widths ss fs) ≤ 3
-  from-few fs h = omega (arith, length-map fs (λ i. length (schema ss i .ranges)), h .count)
+  from-small : (fs : List ℕ) → LegalFrom ss fs → SmallOpen (openItems ss fs)
+  from-small fs h = record {
+    few = omega (arith, length-map fs (λ i. length (schema ss i .ranges)), h .count);
+    widths = all-image _ (λ i k. all-at narrow noSchema i k) (h .earlier);
+    count = omega (arith, length-map ss (λ s. length (s .ranges)), n);
+    relations = all-image _ (λ s k. k) narrow;
+  }
 
-  from-narrow : (fs : List ℕ) → LegalFrom ss fs → All (λ c. c ≤ 8) (widths ss fs)
-  from-narrow fs h = all-image _ (λ i k. all-at narrow noSchema i k) (h .earlier)
-
-  select-bytes : (fs : List ℕ) (es : List Expr) → LegalFrom ss fs → LegalSelect (openItems (widths ss fs)) es → All Byte (joined (map encodeE es))
-  select-bytes fs es f h = all-joined (all-map (bytesE (widths ss fs) (from-few fs f) (from-narrow fs f)) (h .limits))
+  select-bytes : (fs : List ℕ) (es : List Expr) → LegalFrom ss fs → LegalSelect (openItems ss fs) es → All Byte (joined (map encodeE es))
+  select-bytes fs es f h = all-joined (all-map (bytesE (from-small fs f)) (h .limits))
 
   kind-byte : (op : SetOperation) → Byte (setKind op)
   kind-byte SetOperation.union = omega arith
@@ -172,18 +187,16 @@ module _ (t : ℕ) (ss : List Schema) (n : length ss ≤ 16) (narrow : All Narro
   unfolding viewBytes
   view-bytes (View.basic fs w es) h =
       let f = h .relations in
-      let cols = widths ss fs in
       all-append (put 0x03 (omega arith) (put (length fs) (omega (arith, f .count)) (from-bytes fs f)))
-      (all-append (put (length es) (omega (arith, h .select .count)) (bytesC cols (from-few fs f) (from-narrow fs f) w (h .condition))) (select-bytes fs es f (h .select)))
+      (all-append (put (length es) (omega (arith, h .select .count)) (bytesC (from-small fs f) w (h .condition))) (select-bytes fs es f (h .select)))
   view-bytes (View.grouped fs w gs v es) h =
       let f = h .relations in
-      let cols = widths ss fs in
-      let condition = bytesC cols (from-few fs f) (from-narrow fs f) in
+      let condition = bytesC (from-small fs f) in
       all-append (put 0x04 (omega arith) (put (length fs) (omega (arith, f .count)) (from-bytes fs f)))
       (all-append
       (all-append
       (all-append (put (length gs) (omega (arith, h .count)) (put (length es) (omega (arith, h .select .count)) (condition w (h .condition))))
-      (all-joined (all-map (place-bytes cols (from-few fs f) (from-narrow fs f)) (h .grouping))))
+      (all-joined (all-map (place-bytes (from-small fs f)) (h .grouping))))
       (condition v (h .having)))
       (select-bytes fs es f (h .select)))
   view-bytes (View.set op i j) h = put (setKind op) (kind-byte op) (put i (omega (arith, h .left .before)) (put j (omega (arith, h .right .before)) All.nil))

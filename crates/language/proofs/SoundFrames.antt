@@ -16,7 +16,7 @@ use Rattle.value.proofs.Values.{all-map}
 use Rattle.meaning.specs.Lists.{joined}
 use Rattle.meaning.specs.Syntax.{Place, Pair, SetOperation}
 use Rattle.language.specs.Prefix.{encodeE, encodeC}
-use Rattle.language.specs.Reading.{Read, Reader, Open, openItems, readE, readC, InLimitsE, InLimitsC}
+use Rattle.language.specs.Reading.{Reader, Open, openItems, readE, readC, InLimitsE, InLimitsC, Read}
 use Rattle.language.proofs.Readers.{Byte, one, Sound, sound-done, sound-refuse, sound-bind, sound-either, sound-byte, sound-byteIf}
 use Rattle.language.proofs.PrefixForms.{constant-limits, soundE, soundC}
 use Rattle.language.specs.Draft.{Draft, Item, relationCount, isTable, isView, width, schemasOf, stageOf}
@@ -136,17 +136,17 @@ module _ (d : Draft) where
   sound-basic : Sound (one 3) (basicFrame d) itemBytes Fields
   unfolding viewBytes
   sound-basic =
-      sound-bind sound-from (λ fs hf. sound-bind (sound-field 1 8) (λ n hn. let cols = map (width d) fs in
-      sound-bind (sound-condition (openItems cols)) (λ w hw. sound-bind (sound-times (sound-expression (openItems cols)) n) (λ es h. sound-ending _
+      sound-bind sound-from (λ fs hf. sound-bind (sound-field 1 8) (λ n hn. let o = openItems (schemasOf d) fs in
+      sound-bind (sound-condition o) (λ w hw. sound-bind (sound-times (sound-expression o) n) (λ es h. sound-ending _
       (simp (append-assoc, h .0))
       (record { relations = hf; condition = hw; select = record { count = rw (h .0) hn; limits = h .1 } })))))
 
   sound-grouped : Sound (one 4) (groupedFrame d) itemBytes Fields
   unfolding viewBytes
   sound-grouped =
-      sound-bind sound-from (λ fs hf. sound-bind (sound-field 0 4) (λ g hg. sound-bind (sound-field 1 8) (λ n hn. let cols = map (width d) fs in
-      sound-bind (sound-condition (openItems cols)) (λ w hw. sound-bind (sound-times (sound-place cols) g) (λ gs hs. sound-bind (sound-condition (openItems cols)) (λ v hv.
-      sound-bind (sound-times (sound-expression (openItems cols)) n) (λ es h. sound-ending _
+      sound-bind sound-from (λ fs hf. sound-bind (sound-field 0 4) (λ g hg. sound-bind (sound-field 1 8) (λ n hn. let o = openItems (schemasOf d) fs in
+      sound-bind (sound-condition o) (λ w hw. sound-bind (sound-times (sound-place (o .widths)) g) (λ gs hs. sound-bind (sound-condition o) (λ v hv.
+      sound-bind (sound-times (sound-expression o) n) (λ es h. sound-ending _
       (simp (append-assoc, h .0, hs .0)
       (ap (λ (l : List ℕ). 4 ∷ length fs ∷ (fs ++ g ∷ n ∷ l)) (sym (regroup (encodeC w) (joined (map _ gs)) (encodeC v) (joined (map encodeE es))))))
       (record {

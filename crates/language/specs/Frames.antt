@@ -1,7 +1,7 @@
 -- The frames, kind by kind: "bytes left to right for 4, 5, 6, a surplus byte last", and then the rules on the whole frame. Assumes
 -- nothing: these are definitions, and they compute.
-use mathlib.Core.Bool.{Bool, true, false, _&&_, cond}
-use mathlib.Core.List.{List, [], _∷_, map}
+use mathlib.Core.Bool.{Bool, true, _&&_, cond}
+use mathlib.Core.List.{List, [], _∷_}
 use Prim.Native.Nat.{ℕ, zero, suc, _/_, _%_, _^_}
 use lib.Dec.{ltb, leb, eqb}
 use lib.ListN.{length, getD}
@@ -9,7 +9,7 @@ use lib.Signed.{leZ}
 use Rattle.value.specs.Bag.{countIf}
 use Rattle.value.specs.Integer.{bytesZ}
 use Rattle.value.specs.Value.{Column}
-use Rattle.meaning.specs.Syntax.{Place, SetOperation, View, Table, Pair, ForeignKey, Goal}
+use Rattle.meaning.specs.Syntax.{Place, SetOperation, View, Table, Pair}
 use Rattle.language.specs.Reading.{Read, Reader, done, refuse, _>>=_, byte, byteIf, either, openItems, readE, readC}
 use Rattle.meaning.specs.Bounds.{sameWidth, aggregatesFit, bounded, rangesFit}
 use Rattle.language.specs.Draft.{Draft, Item, relationCount, isTable, isView, width, schemasOf}
@@ -64,8 +64,8 @@ fromList d = field 1 3 >>= λ n. repeated n (byteIf 6 (λ i. ltb i (relationCoun
 
 abbrev pub basicFrame : Draft → Reader Item
 basicFrame d = fromList d >>= λ fs. field 1 8 >>= λ n.
-    let cols = map (width d) fs in
-    readC (openItems cols) >>= λ w. repeated n (readE (openItems cols)) >>= λ es. ending (Item.view (View.basic fs w es))
+    let o = openItems (schemasOf d) fs in
+    readC o >>= λ w. repeated n (readE o) >>= λ es. ending (Item.view (View.basic fs w es))
 
 -- ---- 04 aggregate view: ".. grouping count (0 to 4), select count (1 to 8), where, the grouping columns (from item, column), having, the
 -- select expressions"
@@ -75,8 +75,8 @@ placeField cols = byteIf 6 (λ i. ltb i (length cols)) >>= λ i. byteIf 6 (λ c.
 
 abbrev pub groupedFrame : Draft → Reader Item
 groupedFrame d = fromList d >>= λ fs. field 0 4 >>= λ g. field 1 8 >>= λ n.
-    let cols = map (width d) fs in
-    readC (openItems cols) >>= λ w. repeated g (placeField cols) >>= λ gs. readC (openItems cols) >>= λ h. repeated n (readE (openItems cols)) >>= λ es.
+    let o = openItems (schemasOf d) fs in
+    readC o >>= λ w. repeated g (placeField (o .widths)) >>= λ gs. readC o >>= λ h. repeated n (readE o) >>= λ es.
     ending (Item.view (View.grouped fs w gs h es))
 
 -- ---- 05 union, 06 intersection: "two earlier views"

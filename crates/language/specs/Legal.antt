@@ -91,8 +91,8 @@ pub record LegalPlace (cols : List ℕ) (p : Place) : Type 0 where
 pub record LegalBasic (ss : List Schema) (fs : List ℕ) (w : Cond) (es : List Expr) : Type 0 where
   pub relations : LegalFrom ss fs
   -- "a where condition"
-  pub condition : InLimitsC (openItems (widths ss fs)) w
-  pub select : LegalSelect (openItems (widths ss fs)) es
+  pub condition : InLimitsC (openItems ss fs) w
+  pub select : LegalSelect (openItems ss fs) es
 
 pub record LegalGrouped (ss : List Schema) (fs : List ℕ) (w : Cond) (gs : List Place) (h : Cond) (es : List Expr) : Type 0 where
   -- "from count and relations as in 03"
@@ -100,12 +100,12 @@ pub record LegalGrouped (ss : List Schema) (fs : List ℕ) (w : Cond) (gs : List
   -- "grouping count (0 to 4)"
   pub count : Limits 0 4 (length gs)
   -- "where"
-  pub condition : InLimitsC (openItems (widths ss fs)) w
+  pub condition : InLimitsC (openItems ss fs) w
   -- "the grouping columns"
   pub grouping : All (LegalPlace (widths ss fs)) gs
   -- "having"
-  pub having : InLimitsC (openItems (widths ss fs)) h
-  pub select : LegalSelect (openItems (widths ss fs)) es
+  pub having : InLimitsC (openItems ss fs) h
+  pub select : LegalSelect (openItems ss fs) es
 
 -- relation i is a view: behind t tables and before relation r
 pub record NamesView (t r i : ℕ) : Type 0 where

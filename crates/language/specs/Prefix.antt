@@ -44,3 +44,5 @@ unfoldable mutual
   encodeC (Cond.comparison op a b) = comparisonToken op ∷ encodeE a ++ encodeE b
   encodeC (Cond.negated c) = 0x14 ∷ encodeC c
   encodeC (Cond.connection op c d) = connectiveToken op ∷ encodeC c ++ encodeC d
+  -- "token 17, a relation numbered below the view, a condition"
+  encodeC (Cond.exists i c) = 0x17 ∷ i ∷ encodeC c

@@ -1,7 +1,7 @@
 -- Reading prefix forms "left to right for 4, 5, 6": the tree with the bytes behind it, or the number of the refusal. Assumes nothing:
 -- these are definitions, and they compute.
 use mathlib.Core.Bool.{Bool, _&&_, true, false}
-use mathlib.Core.List.{List, [], _∷_}
+use mathlib.Core.List.{List, [], _∷_, _++_, map}
 use Prim.Native.Nat.{ℕ, zero, suc, _+_, _*_, _≤_, _<_}
 use lib.Dec.{ltb, leb, eqb}
 use lib.ListN.{length, getD}
@@ -9,6 +9,7 @@ use lib.Signed.{_≤ℤ_}
 use Rattle.value.specs.Integer.{low16, high16, bytesZ}
 use Rattle.value.specs.Value.{Operation, Comparison, Connective, aggregateAt}
 use Rattle.meaning.specs.Syntax.{Expr, Cond}
+use Rattle.meaning.specs.Bounds.{Schema, schema}
 
 -- ---- readers
 
@@ -68,9 +69,16 @@ step = twoBytes >>= λ m. either (leb 1 m && leb m 1000) (done m) (refuse 5)
 pub record Open : Type 0 where
   -- the number of columns of each
   pub widths : List ℕ
+  -- the number of columns of each relation before the view
+  pub relations : List ℕ
 
-abbrev pub openItems : List ℕ → Open
-openItems ws = record { widths = ws }
+-- those of a view with this from list, over the schemas of the relations before it
+abbrev pub openItems : List Schema → List ℕ → Open
+openItems ss fs = record { widths = map (λ i. length (schema ss i .ranges)) fs; relations = map (λ s. length (s .ranges)) ss }
+
+-- the row of relation i is "one more from item, numbered after those already open"
+abbrev pub openedItem : Open → ℕ → Open
+openedItem o i = record { widths = o .widths ++ (getD (o .relations) i 0 ∷ []); relations = o .relations }
 
 -- "01 from item, column", each of which must be there, else 6; `cols` has each from item's number of columns
 abbrev pub place : List ℕ → Reader Expr
@@ -89,15 +97,22 @@ expressions o e c =
     ∷ (0x07, (byteIf 5 (λ n. leb n 3) >>= λ n. e >>= λ a. done (Expr.aggregate (aggregateAt n) a)))
     ∷ []
 
-abbrev pub conditions : Reader Expr → Reader Cond → List (ℕ × Reader Cond)
-conditions e c =
+-- "at most six in all": "5 for a seventh from item, at token 17 itself, 6 for the relation"; then the condition, with one more item open
+abbrev pub existing : Open → (Open → Reader Cond) → Reader Cond
+existing o c = either (ltb (length (o .widths)) 6)
+    (byteIf 6 (λ i. ltb i (length (o .relations))) >>= λ i. c (openedItem o i) >>= λ t. done (Cond.exists i t)) (refuse 5)
+
+-- what stands behind each condition token, given how expressions are read, and conditions with any items open
+abbrev pub conditions : Open → Reader Expr → (Open → Reader Cond) → List (ℕ × Reader Cond)
+conditions o e c =
     (0x10, done Cond.always)
     ∷ (0x11, (e >>= λ a. e >>= λ b. done (Cond.comparison Comparison.equal a b)))
     ∷ (0x12, (e >>= λ a. e >>= λ b. done (Cond.comparison Comparison.less a b)))
     ∷ (0x13, (e >>= λ a. e >>= λ b. done (Cond.comparison Comparison.lessEqual a b)))
-    ∷ (0x14, (c >>= λ t. done (Cond.negated t)))
-    ∷ (0x15, (c >>= λ s. c >>= λ t. done (Cond.connection Connective.conjunction s t)))
-    ∷ (0x16, (c >>= λ s. c >>= λ t. done (Cond.connection Connective.disjunction s t)))
+    ∷ (0x14, (c o >>= λ t. done (Cond.negated t)))
+    ∷ (0x15, (c o >>= λ s. c o >>= λ t. done (Cond.connection Connective.conjunction s t)))
+    ∷ (0x16, (c o >>= λ s. c o >>= λ t. done (Cond.connection Connective.disjunction s t)))
+    ∷ (0x17, existing o c)
     ∷ []
 
 -- ---- expressions and conditions: no tree is deeper than its bytes are many, so as deep as the bytes go is deep enough
@@ -108,7 +123,7 @@ unfoldable mutual
 
   pub deepC : Open → ℕ → Reader Cond
   deepC o zero = refuse 4
-  deepC o (suc n) = byte >>= choose (conditions (deepE o n) (deepC o n))
+  deepC o (suc n) = byte >>= choose (conditions o (deepE o n) (λ p. deepC p n))
 
 unfoldable pub readE : Open → Reader Expr
 readE o bs = deepE o (length bs) bs
@@ -116,7 +131,7 @@ readE o bs = deepE o (length bs) bs
 unfoldable pub readC : Open → Reader Cond
 readC o bs = deepC o (length bs) bs
 
--- the trees that bytes can stand for: constants of 16 bits, steps in their limits, and columns that are there
+-- the trees that bytes can stand for: constants of 16 bits, steps in their limits, columns and relations that are there, and at most six items
 unfoldable mutual
   pub InLimitsE : Open → Expr → Type 0
   InLimitsE o (Expr.constant z) = (low16 ≤ℤ z) × (z ≤ℤ high16)
@@ -131,3 +146,4 @@ unfoldable mutual
   InLimitsC o (Cond.comparison op a b) = InLimitsE o a × InLimitsE o b
   InLimitsC o (Cond.negated c) = InLimitsC o c
   InLimitsC o (Cond.connection op c d) = InLimitsC o c × InLimitsC o d
+  InLimitsC o (Cond.exists i c) = (length (o .widths) < 6) × (i < length (o .relations)) × InLimitsC (openedItem o i) c

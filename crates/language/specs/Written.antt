@@ -1,5 +1,5 @@
 -- A file written out: the frames of its tables, foreign keys, views and goal. Assumes nothing: these are definitions, and they compute.
-use mathlib.Core.Bool.{Bool, true, false, cond}
+use mathlib.Core.Bool.{Bool, cond}
 use mathlib.Core.List.{List, [], _∷_, _++_, map}
 use Prim.Native.Nat.{ℕ, _+_, _*_}
 use lib.ListN.{length}

@@ -14,7 +14,7 @@ use Rattle.meaning.specs.Candidates.{cellColumns}
 use Rattle.catalog.specs.Arrays.{widthAt, boundAt}
 use Rattle.language.specs.Legal.{LegalTable, tableAt}
 use Rattle.store.specs.Rows.{listed}
-use Rattle.store.proofs.Listed.{length-listed}
+use Rattle.meaning.proofs.Listed.{length-listed}
 use Rattle.look.specs.Cells.{code, rowCodes, tableCodes, allCodes, codesOf, Codes, OnlyFrom, RowCoded, TableCoded, CellsOf}
 
 -- ---- their number

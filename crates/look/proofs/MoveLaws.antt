@@ -16,7 +16,7 @@ use Rattle.meaning.proofs.ListSteps.{map-at}
 use Rattle.catalog.specs.Arrays.{columnAt}
 use Rattle.catalog.proofs.FileLaws.{noColumn}
 use Rattle.store.specs.Layout.{area, putCell}
-use Rattle.store.proofs.Listed.{drop-set}
+use Rattle.meaning.proofs.Listed.{drop-set}
 use Rattle.store.proofs.RowLaws.{only-same, only-more, only-wider, only-put-cell}
 use Rattle.look.specs.Cells.{codesOf, cellsIn, CodedTable}
 use Rattle.look.specs.Moves.{codeColumn, CellPlaces, Digits, OnlyCoded, DigitPut, Moved}

@@ -20,7 +20,7 @@ use Rattle.catalog.proofs.FileLaws.{noColumn}
 use Rattle.store.specs.Layout.{area, columnLimit}
 use Rattle.store.specs.Rows.{rowOf, withValue, putRow}
 use Rattle.store.specs.declared.Row.{Row as Values}
-use Rattle.store.proofs.Listed.{getD-listed}
+use Rattle.meaning.proofs.Listed.{getD-listed}
 use Rattle.store.proofs.RowLaws.{row-of-length, with-from, put-row, put-keeps, only-same, only-more, only-put-row}
 use Rattle.look.specs.Cells.{code, rowCodes, tableCodes, allCodes, codesOf, cellAt, cellsIn}
 use Rattle.look.specs.Moves.{codeColumn, CellPlaces, Digits, OnlyCoded, TakesRow, CandidatePut}

@@ -19,7 +19,7 @@ use Rattle.catalog.proofs.FileLaws.{noColumn, rows-are, columns-are, column-is}
 use Rattle.language.specs.Legal.{Legal, LegalTable, tableAt}
 use Rattle.store.specs.Layout.{cellIn}
 use Rattle.store.specs.Rows.{listed, rowIn, rowsIn}
-use Rattle.store.proofs.Listed.{listed-same, length-listed, listed-getD}
+use Rattle.meaning.proofs.Listed.{listed-same, length-listed, listed-getD}
 use Rattle.store.proofs.RowLaws.{rows-length}
 use Rattle.look.specs.Cells.{code, rowCodes, tableCodes, allCodes, codesOf, cellAt, cellsIn, CellsOf}
 use Rattle.look.specs.Moves.{codeColumn, placesFrom, Digits}

@@ -31,7 +31,7 @@ use Rattle.language.specs.FileOf.{fileOf}
 use Rattle.language.proofs.TextLaws.{accepted-text}
 use Rattle.language.proofs.RealLooks.{look-of-text, demand-3, look-says}
 use Rattle.language.specs.LookOf.{lookOf}
-use Rattle.language.specs.OutputOf.{numberBytes, rowsFrame, searchedAll, outputOf, outputRoom, Printed}
+use Rattle.language.specs.OutputOf.{numberBytes, rowsFrame, searchedAll, outputOf, outputRoom}
 use Rattle.marked.specs.Table.{Entry, LookGives, Judges, Prints, Right}
 
 -- ---- a look

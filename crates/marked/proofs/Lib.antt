@@ -5,6 +5,8 @@ pub mod Computed
 pub mod Marked
 -- the theorem on the samples
 pub mod Samples
+-- the theorem on the samples of exists
+pub mod Exists
 -- the theorem on sheets
 pub mod Sheets
 -- misreadings of document 01

@@ -2,5 +2,7 @@
 pub mod Table
 -- more of the same, for every operation of the bounds and every token
 pub mod Samples
+-- token 17
+pub mod Exists
 -- what the second program prints
 pub mod Sheets

@@ -70,8 +70,8 @@ ofBytes =
     ∷ "Ligne 4\u{a0}: elle est trop courte ou trop longue, ou contient un code qui ne peut pas se trouver là où il est (refus 4)."
     ∷ [])
     ∷ prints (program "070202")
-    ("Line 4: a number is outside its limits: rows 0 to 8, columns 1 to 4, key mask within the columns, lo at most hi, key pairs 1 to 4, from items 1 to 3, selected columns 1 to 8, grouping columns 0 to 4, rounding step 1 to 1,000, aggregate 0 to 3, sign 0 or 1, at most 16 relations and 16 foreign keys (refusal 5)."
-    ∷ "Ligne 4\u{a0}: un nombre est hors de ses limites\u{a0}: rangées 0 à 8, colonnes 1 à 4, masque de clé dans les colonnes, lo au plus égal à hi, paires de clé 1 à 4, éléments de from 1 à 3, colonnes sélectionnées 1 à 8, colonnes de regroupement 0 à 4, pas d’arrondi 1 à 1\u{202f}000, agrégat 0 à 3, signe 0 ou 1, au plus 16 relations et 16 clés étrangères (refus 5)."
+    ("Line 4: a number is outside its limits: rows 0 to 8, columns 1 to 4, key mask within the columns, lo at most hi, key pairs 1 to 4, from items 1 to 3, at most 6 with those of exists, selected columns 1 to 8, grouping columns 0 to 4, rounding step 1 to 1,000, aggregate 0 to 3, sign 0 or 1, at most 16 relations and 16 foreign keys (refusal 5)."
+    ∷ "Ligne 4\u{a0}: un nombre est hors de ses limites\u{a0}: rangées 0 à 8, colonnes 1 à 4, masque de clé dans les colonnes, lo au plus égal à hi, paires de clé 1 à 4, éléments de from 1 à 3, au plus 6 avec ceux des exists, colonnes sélectionnées 1 à 8, colonnes de regroupement 0 à 4, pas d’arrondi 1 à 1\u{202f}000, agrégat 0 à 3, signe 0 ou 1, au plus 16 relations et 16 clés étrangères (refus 5)."
     ∷ [])
     ∷ prints (program "070300")
     ("Line 4: it names a relation, from item or column that is not there or does not fit, or its columns do not pair with the parent's key or the other view (refusal 6)."
@@ -83,8 +83,8 @@ ofBytes =
 abbrev pub ofRules : List SheetEntry
 ofRules =
     prints (lines ("0101010000000003" ∷ "03010001100701010000" ∷ "070100" ∷ []))
-    ("Line 2: an aggregate stands outside the having and select of an aggregate view or inside another, or a column outside every aggregate is not a grouping column (refusal 7)."
-    ∷ "Ligne 2\u{a0}: un agrégat se trouve hors du having et du select d’une vue d’agrégation ou dans un autre, ou une colonne hors de tout agrégat n’est pas une colonne de regroupement (refus 7)."
+    ("Line 2: an aggregate stands outside the having and select of an aggregate view or inside another, a column outside every aggregate is not a grouping column, or an exists stands elsewhere than in where (refusal 7)."
+    ∷ "Ligne 2\u{a0}: un agrégat se trouve hors du having et du select d’une vue d’agrégation ou dans un autre, une colonne hors de tout agrégat n’est pas une colonne de regroupement, ou un exists se trouve ailleurs que dans where (refus 7)."
     ∷ [])
     ∷ prints (combined "03030001020110010000")
     ("Line 4: this view could have more than 64 rows (refusal 8)."

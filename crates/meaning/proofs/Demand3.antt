@@ -1,6 +1,6 @@
 -- Demand 3: what one look says, from any start; one statement about every list of looks at one accepted file; and what looks say together
 -- that cover all candidates. Assumes nothing.
-use mathlib.Core.Path.{_≡_, refl, sym, _∙_}
+use mathlib.Core.Path.{_≡_}
 use mathlib.Core.Bool.{true}
 use Rattle.meaning.specs.Bounds.{wellFormed}
 use Rattle.meaning.specs.Candidates.{Numbered, SixteenBits}

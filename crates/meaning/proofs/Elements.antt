@@ -8,7 +8,7 @@ use lib.ListN.{length, getD, take}
 use Rattle.value.specs.Bag.{Test, All, count, remove}
 use Rattle.value.proofs.Decides.{by-test, and-parts}
 use Rattle.value.proofs.Values.{all-map}
-use Rattle.meaning.specs.Lists.{Any, Each, all, isPos, keep, firsts, common, pairs, combinations}
+use Rattle.meaning.specs.Lists.{Any, Each, all, isPos, joined, keep, firsts, common, pairs, combinations}
 
 -- ---- each element
 
@@ -75,6 +75,11 @@ module _ {A : Type 0} {P : A → Type 0} where
   all-common E ys (All.cons {x} q qs) = by-test (isPos (count E x ys))
       (λ e. rw e (All.cons q (all-common E (remove E x ys) qs)))
       (λ e. rw e (all-common E ys qs))
+
+-- of lists one behind the other
+pub all-joined : {A B : Type 0} {f : A → List B} {P : B → Type 0} {xs : List A} → All (λ x. All P (f x)) xs → All P (joined (map f xs))
+all-joined All.nil = All.nil
+all-joined (All.cons p ps) = all-append p (all-joined ps)
 
 -- ---- some element
 

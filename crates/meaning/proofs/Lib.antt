@@ -5,6 +5,7 @@ pub mod Elements
 pub mod DecidedLists
 pub mod ListBags
 pub mod ListSteps
+pub mod Listed
 pub mod Sizes
 pub mod Stacks
 -- demand 2: views are the algebra's, cases the paper's, and the order of rows does not count
@@ -20,6 +21,7 @@ pub mod RowOrder
 pub mod Demand2
 pub mod PaperFacts
 pub mod RefutedRows
+pub mod RefutedExists
 -- ranges hold every value, and 32 bits every result
 pub mod RangeOfValue
 pub mod ViewRanges

@@ -17,7 +17,7 @@ use Rattle.meaning.specs.Lists.{Each, all, copies, joined}
 use Rattle.meaning.specs.Syntax.{Table, File, Row, Database}
 use Rattle.meaning.specs.Valid.{InRange}
 use Rattle.meaning.specs.Bounds.{ordered}
-use Rattle.meaning.specs.Candidates.{cellColumns, sizesProduct, values, number, cutRows, cut, cellCount, candidates, cells, database, Numbered}
+use Rattle.meaning.specs.Candidates.{cellColumns, values, number, cutRows, cut, cellCount, candidates, cells, database, Numbered}
 use Rattle.meaning.proofs.Elements.{all-append, all-test, each-append}
 use Rattle.meaning.proofs.DecidedLists.{each-length}
 use Rattle.meaning.proofs.Digits.{Ascending, product-above, length-values, values-within, number-values, number-below, values-number, values-unique}

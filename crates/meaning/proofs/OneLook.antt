@@ -1,18 +1,17 @@
 -- One look, from any start: the definition of a look gives exactly what "A look" says, in terms of the paper's cases. Assumes nothing.
 use mathlib.Core.Path.{_≡_, refl, sym, ap, _∙_, subst}
 use mathlib.Core.Bool.{Bool, true, false, cond, true≢false}
-use mathlib.Core.List.{List, [], _∷_, map}
-use Prim.Native.Nat.{ℕ, _+_, _-_, _≤_, _<_, min}
+use mathlib.Core.List.{List, map}
+use Prim.Native.Nat.{ℕ, _-_, _≤_, _<_}
 use native.Mathlib.Decide.{decLt}
 use native.Mathlib.Omega.{arith}
 use borrow.Author.Tests.{ltb-true, ltb-false, eqb-true, eqb-false}
 use lib.Dec.{ltb, eqb}
 use lib.IntN.{ℤ}
-use lib.ListN.{length, take, drop, length-append, length-drop, length-map}
+use lib.ListN.{length, drop, length-append, length-drop, length-map}
 use lib.Seq.{take-at, drop-at}
 use Rattle.value.specs.Bag.{All}
-use Rattle.value.specs.Integer.{low16, high16}
-use Rattle.value.specs.Value.{Value, Column, Between, InColumn, Cell, shown}
+use Rattle.value.specs.Value.{Value, Column, InColumn, Cell, shown}
 use Rattle.value.proofs.Decides.{Decides, dec-true, true-dec}
 use Rattle.value.proofs.Values.{between-wider, shown-cell}
 use Rattle.meaning.specs.Lists.{Each, all}
@@ -20,7 +19,7 @@ use Rattle.meaning.specs.Syntax.{File, Database}
 use Rattle.meaning.specs.Cases.{Case}
 use Rattle.meaning.specs.Decided.{isCase, seek, isCaseAt, shownIn, searched, look}
 use Rattle.meaning.specs.Bounds.{ordered}
-use Rattle.meaning.specs.Candidates.{cellColumns, cellCount, candidates, cells, database, Held16, SixteenBits}
+use Rattle.meaning.specs.Candidates.{cellCount, candidates, cells, database, Held16, SixteenBits}
 use Rattle.meaning.specs.Look.{Answer, After, answerIn, zeros, workSize}
 use Rattle.meaning.specs.Looks.{Look, CaseAt, NoneFrom, RefusedBy, Fits, endOf, Smallest, Begins, Buffers, LookSays, EveryLook, upTo, RefusedUnchanged}
 use Rattle.meaning.proofs.Numbering.{all-cells, cells-within, length-cells}

@@ -1,6 +1,6 @@
 -- The ordered meaning is the algebra's, and the algebra's is one bag: demand 2 on views. Assumes nothing.
 use mathlib.Core.Path.{_≡_, refl, sym, ap, ap₂, _∙_}
-use mathlib.Core.Bool.{Bool, true, false}
+use mathlib.Core.Bool.{Bool, true, false, true≢false}
 use mathlib.Core.List.{List, [], _∷_, map}
 use Prim.Native.Nat.{ℕ, zero, suc, _+_, _*_, _<_, min}
 use native.Mathlib.Nat.{suc-mul, zero-mul}
@@ -96,7 +96,7 @@ module _ {M M′ : ℕ → Bag} (h : (i : ℕ) → Same rowTest (M i) (M′ i)) 
   group-alike : {gs : List Place} {S S′ : List Combination} {k : Row} {G G′ : List Combination} {m m′ : Combination} → Same combinationTest S S′
       → IsGroup gs S k G → 0 < count combinationTest m G → IsGroup gs S′ k G′ → 0 < count combinationTest m′ G′
       → Alike (inGrouped gs) (over M G m) (over M′ G′ m′)
-  group-alike {m = m} {m′ = m′} e g l g′ l′ = record { relations = h; items = λ i c t. member-cell g m l i c t ∙ sym (member-cell g′ m′ l′ i c t); group = group-one e g g′ }
+  group-alike {m = m} {m′ = m′} e g l g′ l′ = record { relations = h; items = λ i c t. member-cell g m l i c t ∙ sym (member-cell g′ m′ l′ i c t); one = λ t. absurd (true≢false (sym t)); group = group-one e g g′ }
 
   times-one : (fs : List ℕ) (m : Combination) → crossCount (map M fs) m ≡ crossCount (map M′ fs) m
   times-one [] m = refl
@@ -160,6 +160,7 @@ together-alike : (M : ℕ → Bag) (gs : List Place) (R : List Combination) (k :
 together-alike M gs R k l = record {
   relations = λ i. same-refl;
   items = λ i c t. sym (member-cell (group-sound gs R k) (leader gs R k) (groups-sound gs R .member-of k l) i c t);
+  one = λ t. absurd (true≢false (sym t));
   group = same-refl;
 }
 

@@ -2,7 +2,7 @@
 -- way. Assumes nothing.
 use mathlib.Core.Path.{_≡_, refl, sym, _∙_}
 use mathlib.Core.Bool.{Bool, true, false, _&&_, cond, true≢false}
-use mathlib.Core.List.{List, [], _∷_, map}
+use mathlib.Core.List.{List, [], _∷_, _++_, map}
 use Prim.Native.Nat.{ℕ, _≤_, _<_}
 use native.Mathlib.Omega.{arith}
 use lib.IntN.{pos}
@@ -22,10 +22,10 @@ use Rattle.range.proofs.Soundness.{constant-inside, hull-left, hull-right, roun
 use Rattle.range.proofs.Bits32.{inside-held}
 use Rattle.meaning.specs.Lists.{Each, all}
 use Rattle.meaning.specs.Syntax.{Expr, Cond, Row, Combination}
-use Rattle.meaning.specs.Evaluation.{Scope, alone, cell, value, truth, selected}
-use Rattle.meaning.specs.Bounds.{OpenRanges, range, withinE, withinC, Permitted, insideAggregate, allowedE, allowedC}
+use Rattle.meaning.specs.Evaluation.{Scope, alone, opened, missing, cell, value, truth, selected}
+use Rattle.meaning.specs.Bounds.{OpenRanges, openedRanges, range, withinE, withinC, Permitted, inWhere, insideAggregate, allowedE, allowedC}
 use Rattle.meaning.specs.Clear.{ClearE, ClearC}
-use Rattle.meaning.proofs.Elements.{all-test, all-both, all-image, all-take, each-images}
+use Rattle.meaning.proofs.Elements.{all-test, all-both, all-image, all-take, each-append, each-at, each-images}
 
 -- ---- the parts of a range that are used here
 
@@ -47,9 +47,13 @@ tally-held r e i =
 -- ---- what a scope must give
 
 module _ (o : OpenRanges) where
-  -- every column lies in its range; one that is not there too
-  pub record Covered (m : Combination) : Type 0 where
-    pub at : (i c : ℕ) → Inside (getD (getD (o .ranges) i []) c (constantOf (pos 0))) (cell m i c)
+  -- a row for each open item, each column in its range
+  abbrev pub Covered : Combination → Type 0
+  Covered m = Each (Each Inside) (o .ranges) m
+
+  -- the rows of the relations before the view
+  pub record RelationsCovered (M : ℕ → List Row) : Type 0 where
+    pub at : (i : ℕ) → All (Each Inside (getD (o .relations) i [])) (M i)
 
   -- a group with a member, of no more members than the row bound
   pub record GroupCovered (g : List Combination) : Type 0 where
@@ -57,15 +61,32 @@ module _ (o : OpenRanges) where
     pub size : length g ≤ o .bound
     pub columns : All Covered g
 
-  -- the columns that may stand outside aggregates lie in their ranges, and where aggregates may stand there is a group
+  -- the columns that may stand outside aggregates lie in their ranges; where aggregates may stand there is a group, and where exists may,
+  -- every open item and every relation lies in its ranges
   pub record ScopeCovered (P : Permitted) (s : Scope) : Type 0 where
     pub items : (i c : ℕ) → P .columns i c ≡ true → Inside (getD (getD (o .ranges) i []) c (constantOf (pos 0))) (cell (s .items) i c)
     pub group : P .aggregates ≡ true → GroupCovered (s .group)
+    pub every-item : P .exists ≡ true → Covered (s .items)
+    pub relations : P .exists ≡ true → RelationsCovered (s .relations)
 
 module _ (o : OpenRanges) where
+  -- one that is not there too
+  pub covered-at : {m : Combination} → Covered o m → (i c : ℕ) → Inside (getD (getD (o .ranges) i []) c (constantOf (pos 0))) (cell m i c)
+  covered-at h i c = each-at {P = Inside} (constantOf (pos 0)) missing (constant-inside (pos 0)) (each-at {P = Each Inside} [] [] Each.nil h i) c
+
   -- one combination, outside aggregates
-  pub alone-covered : (P : Permitted) → P .aggregates ≡ false → (M : ℕ → List Row) (m : Combination) → Covered o m → ScopeCovered o P (alone M m)
-  alone-covered P n M m h = record { items = λ i c e. h .at i c; group = λ e. absurd (true≢false (sym e ∙ n)) }
+  pub alone-covered : (P : Permitted) → P .aggregates ≡ false → (M : ℕ → List Row) → (P .exists ≡ true → RelationsCovered o M)
+      → (m : Combination) → Covered o m → ScopeCovered o P (alone M m)
+  alone-covered P n M k m h = record {
+    items = λ i c e. covered-at h i c;
+    group = λ e. absurd (true≢false (sym e ∙ n));
+    every-item = λ e. h;
+    relations = k;
+  }
+
+  -- inside 07, where no exists may stand
+  inside-covered : (M : ℕ → List Row) (m : Combination) → Covered o m → ScopeCovered o insideAggregate (alone M m)
+  inside-covered M m h = alone-covered insideAggregate refl M (λ e. absurd (true≢false (sym e))) m h
 
   -- ---- the value lies in the range
 
@@ -86,7 +107,7 @@ module _ (o : OpenRanges) where
       let g = h .group p in
       let f : Combination → Value = λ m. value (alone (s .relations) m) x in
       total-inside op (o .bound) (range o x) (rw (length-map (s .group) f) (g .member)) (rw (length-map (s .group) f) (g .size))
-      (all-image f (λ m k. value-inside insideAggregate (alone (s .relations) m) (alone-covered insideAggregate refl (s .relations) m k) x q) (g .columns))
+      (all-image f (λ m k. value-inside insideAggregate (alone (s .relations) m) (inside-covered (s .relations) m k) x q) (g .columns))
 
   -- ---- 32 bits hold every result on the way
 
@@ -111,57 +132,65 @@ module _ (o : OpenRanges) where
       let e = Expr.aggregate op x in
       inside-held {r = range o e} (and-parts (within32 (range o e)) (withinE o x) w .0) (value-inside P s h e a)
 
-  mutual
-    pub clear-expression : (P : Permitted) (s : Scope) → ScopeCovered o P s
-        → (e : Expr) → allowedE P e ≡ true → withinE o e ≡ true → ClearE s e
-    clear-expression P s h (Expr.constant z) a w = tt
-    clear-expression P s h (Expr.column i c) a w = tt
-    clear-expression P s h (Expr.operation op x y) a w =
-        let (p, q) = and-parts (allowedE P x) (allowedE P y) a in
-        let (r, d) = and-parts (within32 (range o (Expr.operation op x y))) (withinE o x && withinE o y) w in
-        let (j, k) = and-parts (withinE o x) (withinE o y) d in
-        (clear-expression P s h x p j, clear-expression P s h y q k, value-held P s h (Expr.operation op x y) a w)
-    clear-expression P s h (Expr.rounding m x) a w =
-        let (r, j) = and-parts (within32 (range o (Expr.rounding m x))) (withinE o x) w in
-        (clear-expression P s h x a j, value-held P s h (Expr.rounding m x) a w)
-    clear-expression P s h (Expr.choice c x y) a w =
-        let (p, q) = and-parts (allowedC P c) (allowedE P x && allowedE P y) a in
-        let (t, u) = and-parts (allowedE P x) (allowedE P y) q in
-        let (b, d) = and-parts (withinC o c) (withinE o x && withinE o y) w in
-        let (j, k) = and-parts (withinE o x) (withinE o y) d in
-        (clear-condition P s h c p b, clear-expression P s h x t j, clear-expression P s h y u k)
-    clear-expression P s h (Expr.aggregate op x) a w =
-        let (p, q) = and-parts (P .aggregates) (allowedE insideAggregate x) a in
-        let (r, j) = and-parts (within32 (range o (Expr.aggregate op x))) (withinE o x) w in
-        let g = h .group p in
-        let f : Combination → Value = λ m. value (alone (s .relations) m) x in
-        let is : All (Inside (range o x)) (map f (s .group)) =
-        all-image f (λ m k. value-inside insideAggregate (alone (s .relations) m) (alone-covered insideAggregate refl (s .relations) m k) x q) (g .columns) in (
-          all-map (λ m k. clear-expression insideAggregate (alone (s .relations) m) (alone-covered insideAggregate refl (s .relations) m k) x q j) (g .columns),
-          λ n. tally-held (range o (Expr.aggregate op x)) r
-              (aggregated-tally op (o .bound) (range o x) (rw (length-take n (map f (s .group)), length-map (s .group) f) (omega (arith, g .size))) (all-take n is)),
-        )
+mutual
+  pub clear-expression : (o : OpenRanges) (P : Permitted) (s : Scope) → ScopeCovered o P s
+      → (e : Expr) → allowedE P e ≡ true → withinE o e ≡ true → ClearE s e
+  clear-expression o P s h (Expr.constant z) a w = tt
+  clear-expression o P s h (Expr.column i c) a w = tt
+  clear-expression o P s h (Expr.operation op x y) a w =
+      let (p, q) = and-parts (allowedE P x) (allowedE P y) a in
+      let (r, d) = and-parts (within32 (range o (Expr.operation op x y))) (withinE o x && withinE o y) w in
+      let (j, k) = and-parts (withinE o x) (withinE o y) d in
+      (clear-expression o P s h x p j, clear-expression o P s h y q k, value-held o P s h (Expr.operation op x y) a w)
+  clear-expression o P s h (Expr.rounding m x) a w =
+      let (r, j) = and-parts (within32 (range o (Expr.rounding m x))) (withinE o x) w in
+      (clear-expression o P s h x a j, value-held o P s h (Expr.rounding m x) a w)
+  clear-expression o P s h (Expr.choice c x y) a w =
+      let (p, q) = and-parts (allowedC P c) (allowedE P x && allowedE P y) a in
+      let (t, u) = and-parts (allowedE P x) (allowedE P y) q in
+      let (b, d) = and-parts (withinC o c) (withinE o x && withinE o y) w in
+      let (j, k) = and-parts (withinE o x) (withinE o y) d in
+      (clear-condition o P s h c p b, clear-expression o P s h x t j, clear-expression o P s h y u k)
+  clear-expression o P s h (Expr.aggregate op x) a w =
+      let (p, q) = and-parts (P .aggregates) (allowedE insideAggregate x) a in
+      let (r, j) = and-parts (within32 (range o (Expr.aggregate op x))) (withinE o x) w in
+      let g = h .group p in
+      let f : Combination → Value = λ m. value (alone (s .relations) m) x in
+      let is : All (Inside (range o x)) (map f (s .group)) =
+      all-image f (λ m k. value-inside o insideAggregate (alone (s .relations) m) (inside-covered o (s .relations) m k) x q) (g .columns) in (
+        all-map (λ m k. clear-expression o insideAggregate (alone (s .relations) m) (inside-covered o (s .relations) m k) x q j) (g .columns),
+        λ n. tally-held (range o (Expr.aggregate op x)) r
+            (aggregated-tally op (o .bound) (range o x) (rw (length-take n (map f (s .group)), length-map (s .group) f) (omega (arith, g .size))) (all-take n is)),
+      )
 
-    pub clear-condition : (P : Permitted) (s : Scope) → ScopeCovered o P s
-        → (c : Cond) → allowedC P c ≡ true → withinC o c ≡ true → ClearC s c
-    clear-condition P s h Cond.always a w = tt
-    clear-condition P s h (Cond.comparison op x y) a w =
-        let (p, q) = and-parts (allowedE P x) (allowedE P y) a in
-        let (j, k) = and-parts (withinE o x) (withinE o y) w in
-        (clear-expression P s h x p j, clear-expression P s h y q k)
-    clear-condition P s h (Cond.negated c) a w = clear-condition P s h c a w
-    clear-condition P s h (Cond.connection op c d) a w =
-        let (p, q) = and-parts (allowedC P c) (allowedC P d) a in
-        let (j, k) = and-parts (withinC o c) (withinC o d) w in
-        (clear-condition P s h c p j, clear-condition P s h d q k)
+  pub clear-condition : (o : OpenRanges) (P : Permitted) (s : Scope) → ScopeCovered o P s
+      → (c : Cond) → allowedC P c ≡ true → withinC o c ≡ true → ClearC s c
+  clear-condition o P s h Cond.always a w = tt
+  clear-condition o P s h (Cond.comparison op x y) a w =
+      let (p, q) = and-parts (allowedE P x) (allowedE P y) a in
+      let (j, k) = and-parts (withinE o x) (withinE o y) w in
+      (clear-expression o P s h x p j, clear-expression o P s h y q k)
+  clear-condition o P s h (Cond.negated c) a w = clear-condition o P s h c a w
+  clear-condition o P s h (Cond.connection op c d) a w =
+      let (p, q) = and-parts (allowedC P c) (allowedC P d) a in
+      let (j, k) = and-parts (withinC o c) (withinC o d) w in
+      (clear-condition o P s h c p j, clear-condition o P s h d q k)
+  clear-condition o P s h (Cond.exists i c) a w =
+      let (p, q) = and-parts (P .exists) (allowedC inWhere c) a in
+      let x = openedRanges o i in
+      let k : RelationsCovered x (s .relations) = record { at = h .relations p .at } in
+      all-map (λ r e.
+      clear-condition x inWhere (opened s r)
+      (alone-covered x inWhere refl (s .relations) (λ _. k) (s .items ++ (r ∷ [])) (each-append (h .every-item p) (Each.cons e Each.nil))) c q w)
+      (h .relations p .at i)
 
-  -- ---- a select list
+-- ---- a select list
 
-  module _ (P : Permitted) (s : Scope) (h : ScopeCovered o P s)
-      (es : List Expr) (a : all (allowedE P) es ≡ true) where
-    pub selected-inside : Each Inside (map (range o) es) (selected es s)
-    selected-inside = each-images (range o) (value s) (all-map (value-inside P s h) (all-test (allowedE P) es a))
+module _ (o : OpenRanges) (P : Permitted) (s : Scope) (h : ScopeCovered o P s)
+    (es : List Expr) (a : all (allowedE P) es ≡ true) where
+  pub selected-inside : Each Inside (map (range o) es) (selected es s)
+  selected-inside = each-images (range o) (value s) (all-map (value-inside o P s h) (all-test (allowedE P) es a))
 
-    pub selected-clear : all (withinE o) es ≡ true → All (ClearE s) es
-    selected-clear w = all-map (λ e p. clear-expression P s h e (p .0) (p .1))
-        (all-both (all-test (allowedE P) es a) (all-test (withinE o) es w))
+  pub selected-clear : all (withinE o) es ≡ true → All (ClearE s) es
+  selected-clear w = all-map (λ e p. clear-expression o P s h e (p .0) (p .1))
+      (all-both (all-test (allowedE P) es a) (all-test (withinE o) es w))

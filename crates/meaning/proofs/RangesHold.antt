@@ -1,13 +1,13 @@
 -- For a well-formed file and a database within its value ranges, every value of every relation lies in its column's range, every
 -- relation has at most its bound of rows, and 32 bits hold every result inside every expression that is evaluated. Assumes nothing.
+use Rattle.value.specs.Bag.{All}
 use mathlib.Core.Path.{_≡_, fun-ext, subst}
 use mathlib.Core.Bool.{Bool, true, _&&_}
 use mathlib.Core.List.{List, [], map}
-use mathlib.Core.Option.{some, Option·none-ne-some}
+use mathlib.Core.Option.{some}
 use Prim.Native.Nat.{ℕ, _+_, _-_, _≤_}
 use native.Mathlib.Omega.{arith}
 use lib.ListN.{length, getElem?, take}
-use Rattle.value.specs.Bag.{All}
 use Rattle.value.specs.Value.{Column}
 use Rattle.value.proofs.Decides.{and-parts}
 use Rattle.value.proofs.Values.{all-map}
@@ -19,12 +19,12 @@ use Rattle.meaning.specs.Syntax.{View, Table, File, Row, Database}
 use Rattle.meaning.specs.Rows.{rowsOf, relation, rows}
 use Rattle.meaning.specs.Algebra.{query, below}
 use Rattle.meaning.specs.Valid.{InRange, Shaped}
-use Rattle.meaning.specs.Bounds.{Schema, noSchema, schema, tableSchema, viewSchema, schemas, names, earlier, sameWidth, aggregatesFit, bounded, rangesFit, ordered, everyView, goalNamesRelation, wellFormed}
+use Rattle.meaning.specs.Bounds.{Schema, noSchema, schema, tableSchema, viewSchema, schemas, earlier, sameWidth, aggregatesFit, bounded, rangesFit, ordered, everyView, goalNamesRelation, wellFormed}
 use Rattle.meaning.specs.Clear.{ViewClear, InBounds, RangesHold}
-use Rattle.meaning.proofs.Elements.{all-given, each-at, each-image}
+use Rattle.meaning.proofs.Elements.{each-at, each-image}
 use Rattle.meaning.proofs.DecidedLists.{each-length}
 use Rattle.meaning.proofs.Relations.{query-split}
-use Rattle.meaning.proofs.Stacks.{by-lt, getElem-lt, stack-before, stack-both, stacks-each, stacks-at}
+use Rattle.meaning.proofs.Stacks.{getElem-lt, stack-before, stack-both, stacks-each, stacks-at}
 use Rattle.meaning.proofs.ViewRanges.{view-bounds, view-clear}
 
 -- ---- tables
@@ -65,8 +65,8 @@ view-step : (ss : List Schema) (rs : List (List Row)) (q : View) → Each InBoun
 view-step ss rs q h e =
     let (s, e′) = and-parts (sameWidth ss q) (aggregatesFit ss q && rangesFit ss q) e in
     let (a, r) = and-parts (aggregatesFit ss q) (rangesFit ss q) e′ in
-    let n = all-given (relation-bounds h) (names q) in
-    (view-bounds ss (relation rs) q n s a, view-clear ss (relation rs) q n a r)
+    let n = relation-bounds h in
+    (view-bounds ss (relation rs) n q s a, view-clear ss (relation rs) n q a r)
 
 module _ (F : File) (d : Database) (shaped : Shaped F d)
     (width : everyView sameWidth F ≡ true) (aggregates : everyView aggregatesFit F ≡ true) (ranges : everyView rangesFit F ≡ true) where

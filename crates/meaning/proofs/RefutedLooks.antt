@@ -7,7 +7,7 @@ use Prim.Native.Nat.{ℕ, _+_, _-_, _/_, _%_, _≤_, _<_, min}
 use native.Mathlib.Omega.{arith}
 use lib.Dec.{eqb, ltb}
 use lib.IntN.{ℤ, pos}
-use lib.ListN.{take, getD, replicate}
+use lib.ListN.{getD, replicate}
 use Rattle.value.specs.Integer.{minZ, maxZ}
 use Rattle.value.specs.Value.{Value, Column, Comparison, size, digit, digitOf, shown, compare, sure, holds, between, sameValue}
 use Rattle.value.proofs.Decides.{dec-true}

@@ -12,7 +12,7 @@ use Rattle.value.specs.Integer.{maxZ, minZ}
 use Rattle.value.specs.Value.{Aggregate, Column, Comparison, Value, compare, finish, holds, more, sameValue, start, sure, weight}
 use Rattle.meaning.specs.Algebra.{over}
 use Rattle.meaning.specs.Bounds.{wellFormed}
-use Rattle.meaning.specs.Evaluation.{Scope, combinationTest, keyOf, rowTest, satisfies, selected}
+use Rattle.meaning.specs.Evaluation.{Scope, combinationTest, rowTest, satisfies, selected}
 use Rattle.meaning.specs.Lists.{all, firsts, keep, stack}
 use Rattle.meaning.specs.Rows.{groupRows, kept, groupKeys, members, relation, rows, rowsOf, spread, together}
 use Rattle.meaning.specs.Syntax.{Combination, Cond, Database, Expr, File, Place, Row, View}

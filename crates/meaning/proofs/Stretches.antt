@@ -1,19 +1,19 @@
 -- Looks from any starts, in any order, that together cover all candidates: the smallest case among their answers is the first case, and
 -- where no look answers a case, no database is one. A search that is shared out rests on this. Assumes nothing.
-use mathlib.Core.Path.{_≡_, refl, sym, _∙_}
+use mathlib.Core.Path.{_≡_, refl}
 use mathlib.Core.Bool.{true}
 use mathlib.Core.List.{List}
 use Prim.Native.Nat.{ℕ, _+_, _≤_, _<_}
 use native.Mathlib.Decide.{decLt}
 use native.Mathlib.Omega.{arith}
 use Rattle.value.specs.Bag.{All}
-use Rattle.meaning.specs.Lists.{Any, all}
+use Rattle.meaning.specs.Lists.{all}
 use Rattle.meaning.specs.Syntax.{File}
 use Rattle.meaning.specs.Bounds.{ordered}
 use Rattle.meaning.specs.Candidates.{candidates, database}
 use Rattle.meaning.specs.Look.{Answer}
-use Rattle.meaning.specs.Looks.{Look, CaseAt, NoneBelow, First, NoDatabase, Smallest, Fits, endOf, LookSays, EveryLook, Stretch, Accepted, answerTo, Covered, Least, Together, EveryCover}
-use Rattle.meaning.proofs.Elements.{all-given, all-both, any-map, any-all}
+use Rattle.meaning.specs.Looks.{Look, CaseAt, First, NoDatabase, LookSays, EveryLook, Stretch, Accepted, answerTo, Covered, Least, EveryCover}
+use Rattle.meaning.proofs.Elements.{all-given, any-map, any-all}
 use Rattle.meaning.proofs.ListOfLooks.{no-database}
 
 module _ (F : File) (look : Look) (says : EveryLook F look) where

@@ -1,16 +1,15 @@
 -- "Bounds worked out from the file": row bounds, the range of every expression and column, and the rules on files that the theorems
 -- rest on. Assumes nothing: these are definitions, and they compute.
-use mathlib.Core.Bool.{Bool, true, false, _&&_, _||_}
+use mathlib.Core.Bool.{Bool, true, false, _&&_}
 use mathlib.Core.List.{List, [], _∷_, _++_, foldr, map}
-use Prim.Native.Nat.{ℕ, zero, suc, _+_, _*_, min}
+use Prim.Native.Nat.{ℕ, _+_, _*_, min}
 use lib.Dec.{ltb, leb, eqb}
 use lib.IntN.{pos}
 use lib.Signed.{leZ}
 use lib.ListN.{length, getD}
-use Rattle.value.specs.Value.{Column}
 use Rattle.range.specs.Ranges.{within32, constantOf, rangeFrom, hullOf, operatedOf, roundedOf, aggregatedOf}
 use Rattle.range.specs.declared.Range.{Range}
-use Rattle.meaning.specs.Lists.{all, any, each, stack, stackAll}
+use Rattle.meaning.specs.Lists.{all, any, joined, stack, stackAll}
 use Rattle.meaning.specs.Syntax.{Expr, Cond, SetOperation, View, Place, Table, Goal, File}
 
 -- ---- what the file alone tells of a relation
@@ -43,10 +42,16 @@ pub record OpenRanges : Type 0 where
   pub ranges : List (List Range)
   -- the row bound of the view
   pub bound : ℕ
+  -- the ranges of the columns of each relation before the view
+  pub relations : List (List Range)
 
 -- those of a view with this from list
 abbrev pub openRanges : List Schema → List ℕ → OpenRanges
-openRanges ss fs = record { ranges = itemRanges ss fs; bound = productBound ss fs }
+openRanges ss fs = record { ranges = itemRanges ss fs; bound = productBound ss fs; relations = map (λ s. s .ranges) ss }
+
+-- the row of relation i is "one more from item"; "Row bounds do not count it"
+abbrev pub openedRanges : OpenRanges → ℕ → OpenRanges
+openedRanges o i = record { ranges = o .ranges ++ (getD (o .relations) i [] ∷ []); bound = o .bound; relations = o .relations }
 
 abbrev pub range : OpenRanges → Expr → Range
 range o (Expr.constant z) = constantOf z
@@ -71,6 +76,7 @@ abbrev mutual
   withinC o (Cond.comparison op a b) = withinE o a && withinE o b
   withinC o (Cond.negated c) = withinC o c
   withinC o (Cond.connection op c d) = withinC o c && withinC o d
+  withinC o (Cond.exists i c) = withinC (openedRanges o i) c
 
 -- ---- the schema of every relation
 
@@ -107,10 +113,27 @@ schemas F = stack viewSchema (F .views) (map tableSchema (F .tables))
 
 -- ---- the rules on views, each as a test of a view with what stands before it
 
--- the relations that a view names
+-- the relations into which 17 looks
+abbrev mutual
+  pub innerE : Expr → List ℕ
+  innerE (Expr.constant z) = []
+  innerE (Expr.column i c) = []
+  innerE (Expr.operation op a b) = innerE a ++ innerE b
+  innerE (Expr.rounding m a) = innerE a
+  innerE (Expr.choice c a b) = innerC c ++ (innerE a ++ innerE b)
+  innerE (Expr.aggregate op a) = innerE a
+
+  pub innerC : Cond → List ℕ
+  innerC Cond.always = []
+  innerC (Cond.comparison op a b) = innerE a ++ innerE b
+  innerC (Cond.negated c) = innerC c
+  innerC (Cond.connection op c d) = innerC c ++ innerC d
+  innerC (Cond.exists i c) = i ∷ innerC c
+
+-- the relations that a view names: its from list, and those into which it looks
 abbrev pub names : View → List ℕ
-names (View.basic fs w ss) = fs
-names (View.grouped fs w gs h ss) = fs
+names (View.basic fs w es) = fs ++ (innerC w ++ joined (map innerE es))
+names (View.grouped fs w gs h es) = fs ++ (innerC w ++ (innerC h ++ joined (map innerE es)))
 names (View.set op i j) = i ∷ j ∷ []
 
 -- 6: "earlier relations". That the operands of a set view are views is asked of a legal file (`Legal` of rules); the theorems need less
@@ -130,26 +153,27 @@ anyColumn i c = true
 abbrev pub groupingColumn : List Place → ℕ → ℕ → Bool
 groupingColumn gs i c = any (λ p. eqb (p .item) i && eqb (p .column) c) gs
 
--- what may stand in an expression or a condition: which columns outside 07, and whether 07
+-- what may stand in an expression or a condition: which columns outside 07, whether 07, and whether 17
 pub record Permitted : Type 0 where
   pub columns : ℕ → ℕ → Bool
   pub aggregates : Bool
+  pub exists : Bool
 
 -- 7: "Token 07 may stand only in the having and select of an aggregate view, and not inside another 07. There, a column outside 07 must
--- be a grouping column."
+-- be a grouping column." Of 17: "It may stand only within where conditions; elsewhere it breaks the rule on 07"
 abbrev pub inWhere : Permitted
-inWhere = record { columns = anyColumn; aggregates = false }
+inWhere = record { columns = anyColumn; aggregates = false; exists = true }
 
 -- in the select of a basic view
 abbrev pub inBasic : Permitted
-inBasic = record { columns = anyColumn; aggregates = false }
+inBasic = record { columns = anyColumn; aggregates = false; exists = false }
 
 -- in the having and select of an aggregate view
 abbrev pub inGrouped : List Place → Permitted
-inGrouped gs = record { columns = groupingColumn gs; aggregates = true }
+inGrouped gs = record { columns = groupingColumn gs; aggregates = true; exists = false }
 
 abbrev pub insideAggregate : Permitted
-insideAggregate = record { columns = anyColumn; aggregates = false }
+insideAggregate = record { columns = anyColumn; aggregates = false; exists = false }
 
 abbrev mutual
   pub allowedE : Permitted → Expr → Bool
@@ -165,6 +189,7 @@ abbrev mutual
   allowedC p (Cond.comparison op a b) = allowedE p a && allowedE p b
   allowedC p (Cond.negated c) = allowedC p c
   allowedC p (Cond.connection op c d) = allowedC p c && allowedC p d
+  allowedC p (Cond.exists i c) = p .exists && allowedC inWhere c
 
 abbrev pub aggregatesFit : List Schema → View → Bool
 aggregatesFit ss (View.basic fs w es) = allowedC inWhere w && all (allowedE inBasic) es

@@ -1,7 +1,7 @@
 -- Candidates: "The cells of tables, rows, columns, in that order, are the digits of a candidate number, first cell most significant,
 -- digit = value - lo." Assumes nothing: these are definitions, and they compute.
 use mathlib.Core.Path.{_≡_}
-use mathlib.Core.List.{List, [], _∷_, _++_, foldr}
+use mathlib.Core.List.{List, [], _∷_, _++_}
 use Prim.Native.Nat.{ℕ, zero, suc, _+_, _*_, _/_, _%_, _<_}
 use lib.ListN.{length, take, drop}
 use lib.Signed.{_≤ℤ_}

@@ -10,7 +10,7 @@ use Rattle.value.specs.Value.{Held, TallyHeld, tally}
 use Rattle.range.specs.Ranges.{Inside}
 use Rattle.meaning.specs.Lists.{Any, Each, combinations}
 use Rattle.meaning.specs.Syntax.{Expr, Cond, View, Place, File, Row, Combination, Database}
-use Rattle.meaning.specs.Evaluation.{Scope, alone, value}
+use Rattle.meaning.specs.Evaluation.{Scope, alone, opened, value}
 use Rattle.meaning.specs.Rows.{groupKeys, together, rows}
 use Rattle.meaning.specs.Algebra.{query, below}
 use Rattle.meaning.specs.Bounds.{Schema, schema, schemas}
@@ -33,6 +33,7 @@ abbrev mutual
   ClearC s (Cond.comparison op a b) = ClearE s a × ClearE s b
   ClearC s (Cond.negated c) = ClearC s c
   ClearC s (Cond.connection op c d) = ClearC s c × ClearC s d
+  ClearC s (Cond.exists i c) = All (λ r. ClearC (opened s r) c) (s .relations i)
 
 -- ---- views, over the rows M of the relations before them
 

@@ -111,6 +111,11 @@ abbrev pub stackAll : {A B : Type 0} → (List B → A → B) → (List B → A 
 stackAll f p [] bs = true
 stackAll f p (x ∷ xs) bs = p bs x && stackAll f p xs (bs ++ (f bs x ∷ []))
 
+-- f 0, f 1, .., f (n - 1), as a loop that appends makes them
+unfoldable pub listed : {A : Type 0} → (ℕ → A) → ℕ → List A
+listed f zero = []
+listed f (suc n) = listed f n ++ (f n ∷ [])
+
 -- lists one behind the other
 abbrev pub joined : {A : Type 0} → List (List A) → List A
 joined = foldr _++_ []

@@ -24,6 +24,8 @@ mutual
     comparison : Comparison → Expr → Expr → Cond
     negated : Cond → Cond
     connection : Connective → Cond → Cond → Cond
+    -- "token 17, a relation numbered below the view, a condition"
+    exists : ℕ → Cond → Cond
 
 -- a grouping column: "(from item, column)"
 pub record Place : Type 0 where

@@ -1,21 +1,27 @@
 -- What skipping a form comes to, by its token.
 -- Assumes nothing.
-use mathlib.Core.Path.{_≡_, refl, ap, _∙_}
+use mathlib.Core.Path.{_≡_, refl, sym, ap, _∙_}
 use mathlib.Core.Bool.{Bool, true, false, _&&_, cond}
 use mathlib.Core.List.{List, [], _∷_}
 use Prim.Native.Nat.{ℕ, _+_, _≤_, _<_}
 use native.Mathlib.Omega.{arith}
-use lib.Dec.{leb, eqb}
+use lib.Dec.{ltb, leb, eqb}
 use lib.ListN.{length, getD}
-use borrow.Author.Tests.{ne-eqb, eqb-true, eqb-false, le-leb}
+use borrow.Author.Tests.{ne-eqb, eqb-true, eqb-false, le-leb, ltb-true, lt-ltb, le-ltb}
 use Rattle.value.proofs.Decides.{by-test}
 use Rattle.value.proofs.Places.{from-byte}
-use Rattle.value.specs.Value.{Operation, Comparison, Connective, aggregateAt}
+use Rattle.value.specs.Value.{aggregateAt, Operation, Comparison, Connective}
 use Rattle.meaning.specs.Syntax.{Expr, Cond}
-use Rattle.language.specs.Reading.{Reader, Open, done, _>>=_, byte, byteIf, twoBytes, step, place, choose, expressions, conditions, readE, readC}
+use Rattle.language.specs.Reading.{Reader, Open, openedItem, done, _>>=_, byte, byteIf, twoBytes, step, place, choose, existing, expressions, conditions, readE, readC}
 use Rattle.language.proofs.PrefixForms.{readE-step, readC-step}
-use Rattle.prefix.specs.Skipped.{FormEnd, skipOf, skipped, twice, behindE, behindC}
-use Rattle.prefix.proofs.Ends.{fieldE, fieldC}
+use Rattle.prefix.specs.Skipped.{FormEnd, skipOf, skipped, twice, openOf, openedSetting, behindE, behindC}
+use Rattle.prefix.specs.declared.Setting.{Setting}
+use Rattle.meaning.proofs.Listed.{length-listed}
+use Rattle.catalog.specs.Arrays.{widthAt}
+use Rattle.catalog.specs.Items.{relationsIn, openIn}
+use Rattle.catalog.proofs.ItemLaws.{widths-number, opened-more, opened-open}
+use Rattle.prefix.proofs.Fields.{if-next, if-passed}
+use Rattle.prefix.proofs.Ends.{field-if, fieldE, fieldC}
 use Rattle.prefix.proofs.Skips.{Level, level-refl, level-done, level-bind, level-at, next-is, past-end, then-further, then-next, then-stop}
 
 -- a token that is not the least of those left
@@ -50,7 +56,7 @@ module _ (o : Open) where
     unfolding behindE
     onE k l e = rw e (level-at frame at l)
 
-    onC : {A : Type 0} (k : ℕ) {m : Reader A} → Level (choose (conditions E C) k) m → OnC k m
+    onC : {A : Type 0} (k : ℕ) {m : Reader A} → Level (choose (conditions o E readC) k) m → OnC k m
     unfolding behindC
     onC k l e = rw e (level-at frame at l)
 
@@ -144,7 +150,10 @@ module _ (o : Open) where
         (λ e. on-conjunction (eqb-true t 0x15 e))
         (λ n. let p = eqb-false t 0x15 n in on-disjunction (omega arith))
 
-    pub unknownC : (0x10 ≤ t → 0x17 ≤ t) → skipped frame at (behindC o t) ≡ FormEnd.refused 4
+    pub on-exists : OnC 0x17 (existing o readC)
+    on-exists = onC 0x17 level-refl
+
+    pub unknownC : (0x10 ≤ t → 0x18 ≤ t) → skipped frame at (behindC o t) ≡ FormEnd.refused 4
     unfolding skipped behindC
     unknownC h =
         rw (
@@ -155,9 +164,10 @@ module _ (o : Open) where
           ne-eqb t 0x14 (λ e. no-token (omega arith) (omega arith)),
           ne-eqb t 0x15 (λ e. no-token (omega arith) (omega arith)),
           ne-eqb t 0x16 (λ e. no-token (omega arith) (omega arith)),
+          ne-eqb t 0x17 (λ e. no-token (omega arith) (omega arith)),
         )
       where
-        no-token : 0x10 ≤ t → t ≤ 0x16 → ⊥
+        no-token : 0x10 ≤ t → t ≤ 0x17 → ⊥
         no-token p q = omega (arith, h p)
 
   -- ---- a form
@@ -184,7 +194,7 @@ module _ (o : Open) where
       pub not-expression : 8 ≤ getD frame at 0 → skipped frame at E ≡ FormEnd.refused 4
       not-expression h = formE ∙ unknownE frame (at + 1) (getD frame at 0) h
 
-      pub no-form : (b : Bool) → 8 ≤ getD frame at 0 → (0x10 ≤ getD frame at 0 → 0x17 ≤ getD frame at 0) → Due b ≡ FormEnd.refused 4
+      pub no-form : (b : Bool) → 8 ≤ getD frame at 0 → (0x10 ≤ getD frame at 0 → 0x18 ≤ getD frame at 0) → Due b ≡ FormEnd.refused 4
       no-form true h k = formC ∙ unknownC frame (at + 1) (getD frame at 0) k
       no-form false h k = not-expression h
 
@@ -206,3 +216,56 @@ module _ (o : Open) where
     unfolding twice
     pair-stop true {n} e k = then-stop frame C (λ _. C) at n e k
     pair-stop false {n} e k = then-stop frame E (λ _. E) at n e k
+
+-- ---- exists
+
+module _ (frame : List ℕ) (at : ℕ) (o : Open) where
+  -- a seventh item, whatever stands behind the token
+  pub exists-full : 6 ≤ length (o .widths) → skipped frame at (existing o readC) ≡ FormEnd.refused 5
+  unfolding skipped
+  exists-full h = rw (le-ltb (length (o .widths)) 6 h)
+
+  module _ (h : length (o .widths) < 6) {n : ℕ} {r : FormEnd} (e : r ≡ skipped frame at (byteIf 6 (λ i. ltb i (length (o .relations))))) where
+    pub exists-next : r ≡ FormEnd.next n → skipped frame at (existing o readC) ≡ skipped frame n (readC (openedItem o (getD frame at 0)))
+    exists-next k =
+        rw (lt-ltb (length (o .widths)) 6 h)
+        (if-next frame at 6 (λ i. ltb i (length (o .relations))) e k (λ i. readC (openedItem o i) >>= λ t. done (Cond.exists i t))
+        ∙ level-at frame n (level-done (readC (openedItem o (getD frame at 0))) (Cond.exists (getD frame at 0))))
+
+    pub exists-stop : r ≡ FormEnd.refused n → skipped frame at (existing o readC) ≡ FormEnd.refused n
+    exists-stop k = rw (lt-ltb (length (o .widths)) 6 h) (then-stop frame (byteIf 6 (λ i. ltb i (length (o .relations)))) _ at n e k)
+
+-- in arrays
+module _ (frame : List ℕ) (at : ℕ) (shape : List ℕ) (s : Setting) where
+  abbrev X : Open
+  X = openOf shape s
+
+  pub open-number : length (X .widths) ≡ s .items .number
+  open-number = sym (widths-number (s .items) shape)
+
+  relation-test : {r : FormEnd} → r ≡ skipped frame at (byteIf 6 (λ b. ltb b (s .earlier))) → r ≡ skipped frame at (byteIf 6 (λ b. ltb b (length (X .relations))))
+  relation-test e = e ∙ ap (λ k. skipped frame at (byteIf 6 (λ b. ltb b k))) (sym (length-listed (widthAt shape) (s .earlier)))
+
+  few : s .items .number < 6 → length (X .widths) < 6
+  few h = omega (arith, open-number)
+
+  pub refused-seventh : 6 ≤ s .items .number → skipped frame at (existing X readC) ≡ FormEnd.refused 5
+  refused-seventh h = exists-full frame at X (omega (arith, open-number))
+
+  module _ (h : s .items .number < 6) {n : ℕ} {r : FormEnd} (e : r ≡ skipped frame at (byteIf 6 (λ b. ltb b (s .earlier)))) where
+    pub looked-next : r ≡ FormEnd.next n → {i : ℕ} → i ≡ getD frame at 0 → skipped frame at (existing X readC) ≡ skipped frame n (readC (openOf shape (openedSetting s i)))
+    looked-next k {i} q =
+        let b : getD frame at 0 < s .earlier = ltb-true (getD frame at 0) (s .earlier) (if-passed frame at 6 (λ b. ltb b (s .earlier)) e k .0) in
+        exists-next frame at X (few h) (relation-test e) k
+        ∙ ap (λ x. skipped frame n (readC x))
+        (opened-open shape (s .earlier) (relationsIn (s .items)) b
+        ∙ ap (openIn shape (s .earlier)) (sym (opened-more (s .items) (getD frame at 0) h)) ∙ ap (λ j. openOf shape (openedSetting s j)) (sym q))
+
+    pub looked-further : r ≡ FormEnd.next n → (at < n) × (n ≤ length frame)
+    looked-further k =
+        let p : ℕ → Bool = λ b. ltb b (s .earlier) in
+        let q = if-passed frame at 6 p e k .1 in
+        (omega arith, then-further frame (field-if 6 p) at e k .1)
+
+    pub looked-stop : r ≡ FormEnd.refused n → skipped frame at (existing X readC) ≡ FormEnd.refused n
+    looked-stop k = exists-stop frame at X (few h) (relation-test e) k

@@ -4,6 +4,8 @@ use Prim.Native.Nat.{ℕ, _-_}
 use lib.ListN.{length, drop}
 use Rattle.meaning.specs.Syntax.{Expr, Cond}
 use Rattle.language.specs.Reading.{Read, Reader, Open, _>>=_, choose, expressions, conditions, readE, readC}
+use Rattle.catalog.specs.Items.{relationsIn, openIn, openedItems}
+use Rattle.prefix.specs.declared.Setting.{Setting}
 use Rattle.prefix.specs.declared.Skip.{Skip}
 use Rattle.prefix.specs.declared.Skip.the-variants.{Next, Refused}
 
@@ -30,9 +32,17 @@ skipped frame at m = skipOf frame (m (drop at frame))
 unfoldable pub twice : {A : Type 0} → Reader A → Reader A
 twice r = r >>= λ _. r
 
+-- ---- what is open where an expression stands
+
+abbrev pub openOf : List ℕ → Setting → Open
+openOf shape s = openIn shape (s .earlier) (relationsIn (s .items))
+
+abbrev pub openedSetting : Setting → ℕ → Setting
+openedSetting s r = record { items = openedItems (s .items) r; earlier = s .earlier }
+
 -- what stands behind a token
 unfoldable pub behindE : Open → ℕ → Reader Expr
 behindE o t = choose (expressions o (readE o) (readC o)) t
 
 unfoldable pub behindC : Open → ℕ → Reader Cond
-behindC o t = choose (conditions (readE o) (readC o)) t
+behindC o t = choose (conditions o (readE o) readC) t

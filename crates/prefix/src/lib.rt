@@ -1,4 +1,5 @@
 // Where each field of a frame ends, and each expression and condition in prefix form; or the number of its refusal.
+use catalog::items;
 use catalog::items::Items;
 use catalog::items::width;
 use slice::byte_at;
@@ -7,9 +8,15 @@ ghost use mathlib.Core.Bool.{cond, _&&_};
 ghost use Prim.Native.Nat.{_+_, _*_, _≤_};
 ghost use lib.Dec.{ltb, leb};
 ghost use lib.ListN.{length, getD};
-ghost use Rattle.language.specs.Reading.{byteIf, twoBytes, step as stepR, place as placeR, readE, readC};
-ghost use Rattle.catalog.specs.Items.{relationsIn, widthsIn, openIn};
-ghost use Rattle.prefix.specs.Skipped.{skipTold, skipped, twice, behindE, behindC};
+ghost use Rattle.language.specs.Reading.{byteIf, twoBytes, step as stepR, place as placeR, existing, readE, readC};
+ghost use Rattle.catalog.specs.Items.{relationsIn, widthsIn};
+ghost use Rattle.prefix.specs.Skipped.{skipTold, skipped, twice, openOf, openedSetting, behindE, behindC};
+
+// Where an expression stands: the from items that are open, and how many relations are before the view.
+pub struct Setting {
+    pub items: Items,
+    pub earlier: u8,
+}
 
 // Where the next bytes start, or the number of a refusal.
 pub enum Skip {
@@ -119,8 +126,8 @@ pub fn place(frame: &[u8], at: usize, items: Items, shape: &[u8]) -> Skip
 
 // A condition where one is due, else an expression: the token's range says which of the two it begins.
 // Refused: 07 is unknown; 10 is unknown.
-fn form(frame: &[u8], at: usize, items: Items, shape: &[u8], condition: bool) -> Skip
-    ensures { λ r. ⌜ skipTold r ≡ cond condition (skipped (now (frame .entry)) at (readC (openIn (now (shape .entry)) (relationsIn items)))) (skipped (now (frame .entry)) at (readE (openIn (now (shape .entry)) (relationsIn items)))) ⌝ }
+fn form(frame: &[u8], at: usize, setting: Setting, shape: &[u8], condition: bool) -> Skip
+    ensures { λ r. ⌜ skipTold r ≡ cond condition (skipped (now (frame .entry)) at (readC (openOf (now (shape .entry)) setting))) (skipped (now (frame .entry)) at (readE (openOf (now (shape .entry)) setting))) ⌝ }
 {
     if frame.len() <= at {
         return Skip::Refused(4);
@@ -131,10 +138,10 @@ fn form(frame: &[u8], at: usize, items: Items, shape: &[u8], condition: bool) ->
         0x00..=0x07 => if condition {
             Skip::Refused(4)
         } else {
-            behind_expression(frame, body, items, shape, token)
+            behind_expression(frame, body, setting, shape, token)
         },
-        0x10..=0x16 => if condition {
-            behind_condition(frame, body, items, shape, token)
+        0x10..=0x17 => if condition {
+            behind_condition(frame, body, setting, shape, token)
         } else {
             Skip::Refused(4)
         },
@@ -144,48 +151,51 @@ fn form(frame: &[u8], at: usize, items: Items, shape: &[u8], condition: bool) ->
 
 // An expression.
 // Refused: a condition; the form at 0.
-pub fn expression(frame: &[u8], at: usize, items: Items, shape: &[u8]) -> Skip
-    ensures { λ r. ⌜ skipTold r ≡ skipped (now (frame .entry)) at (readE (openIn (now (shape .entry)) (relationsIn items))) ⌝ }
+pub fn expression(frame: &[u8], at: usize, setting: Setting, shape: &[u8]) -> Skip
+    ensures { λ r. ⌜ skipTold r ≡ skipped (now (frame .entry)) at (readE (openOf (now (shape .entry)) setting)) ⌝ }
 {
-    form(frame, at, items, shape, false)
+    form(frame, at, setting, shape, false)
 }
 
 // A condition.
 // Refused: the form at 0; an expression.
-pub fn condition(frame: &[u8], at: usize, items: Items, shape: &[u8]) -> Skip
-    ensures { λ r. ⌜ skipTold r ≡ skipped (now (frame .entry)) at (readC (openIn (now (shape .entry)) (relationsIn items))) ⌝ }
+pub fn condition(frame: &[u8], at: usize, setting: Setting, shape: &[u8]) -> Skip
+    ensures { λ r. ⌜ skipTold r ≡ skipped (now (frame .entry)) at (readC (openOf (now (shape .entry)) setting)) ⌝ }
 {
-    form(frame, at, items, shape, true)
+    form(frame, at, setting, shape, true)
 }
 
 // Two conditions, or two expressions.
-fn pair(frame: &[u8], at: usize, items: Items, shape: &[u8], condition: bool) -> Skip
-    ensures { λ r. ⌜ skipTold r ≡ cond condition (skipped (now (frame .entry)) at (twice (readC (openIn (now (shape .entry)) (relationsIn items))))) (skipped (now (frame .entry)) at (twice (readE (openIn (now (shape .entry)) (relationsIn items))))) ⌝ }
+fn pair(frame: &[u8], at: usize, setting: Setting, shape: &[u8], condition: bool) -> Skip
+    ensures { λ r. ⌜ skipTold r ≡ cond condition (skipped (now (frame .entry)) at (twice (readC (openOf (now (shape .entry)) setting)))) (skipped (now (frame .entry)) at (twice (readE (openOf (now (shape .entry)) setting)))) ⌝ }
 {
-    match form(frame, at, items, shape, condition) {
-        Skip::Next(next) => form(frame, next, items, shape, condition),
+    match form(frame, at, setting, shape, condition) {
+        Skip::Next(next) => form(frame, next, setting, shape, condition),
         Skip::Refused(n) => Skip::Refused(n),
     }
 }
 
 // What stands behind an expression's token.
-fn behind_expression(frame: &[u8], at: usize, items: Items, shape: &[u8], token: u8) -> Skip
-    ensures { λ r. ⌜ skipTold r ≡ skipped (now (frame .entry)) at (behindE (openIn (now (shape .entry)) (relationsIn items)) token) ⌝ }
+fn behind_expression(frame: &[u8], at: usize, setting: Setting, shape: &[u8], token: u8) -> Skip
+    ensures { λ r. ⌜ skipTold r ≡ skipped (now (frame .entry)) at (behindE (openOf (now (shape .entry)) setting) token) ⌝ }
 {
     match token {
         0x00 => two_bytes(frame, at),
-        0x01 => place(frame, at, items, shape),
-        0x02..=0x04 => pair(frame, at, items, shape, false),
+        0x01 => {
+            let items = setting.items;
+            place(frame, at, items, shape)
+        }
+        0x02..=0x04 => pair(frame, at, setting, shape, false),
         0x05 => match step(frame, at) {
-            Skip::Next(next) => expression(frame, next, items, shape),
+            Skip::Next(next) => expression(frame, next, setting, shape),
             Skip::Refused(n) => Skip::Refused(n),
         },
-        0x06 => match condition(frame, at, items, shape) {
-            Skip::Next(next) => pair(frame, next, items, shape, false),
+        0x06 => match condition(frame, at, setting, shape) {
+            Skip::Next(next) => pair(frame, next, setting, shape, false),
             Skip::Refused(n) => Skip::Refused(n),
         },
         0x07 => match between(frame, at, 5, 0, 3) {
-            Skip::Next(next) => expression(frame, next, items, shape),
+            Skip::Next(next) => expression(frame, next, setting, shape),
             Skip::Refused(n) => Skip::Refused(n),
         },
         _ => Skip::Refused(4),
@@ -193,15 +203,44 @@ fn behind_expression(frame: &[u8], at: usize, items: Items, shape: &[u8], token:
 }
 
 // What stands behind a condition's token.
-fn behind_condition(frame: &[u8], at: usize, items: Items, shape: &[u8], token: u8) -> Skip
+fn behind_condition(frame: &[u8], at: usize, setting: Setting, shape: &[u8], token: u8) -> Skip
     requires { ⌜ at ≤ length (now frame) ⌝ }
-    ensures { λ r. ⌜ skipTold r ≡ skipped (now (frame .entry)) at (behindC (openIn (now (shape .entry)) (relationsIn items)) token) ⌝ }
+    ensures { λ r. ⌜ skipTold r ≡ skipped (now (frame .entry)) at (behindC (openOf (now (shape .entry)) setting) token) ⌝ }
 {
     match token {
         0x10 => Skip::Next(at),
-        0x11..=0x13 => pair(frame, at, items, shape, false),
-        0x14 => condition(frame, at, items, shape),
-        0x15..=0x16 => pair(frame, at, items, shape, true),
+        0x11..=0x13 => pair(frame, at, setting, shape, false),
+        0x14 => condition(frame, at, setting, shape),
+        0x15..=0x16 => pair(frame, at, setting, shape, true),
+        0x17 => behind_exists(frame, at, setting, shape),
         _ => Skip::Refused(4),
+    }
+}
+
+// The same with one more item open, the row of a relation.
+// Refused: the items as they were; no relation before the view.
+fn opened(setting: Setting, relation: u8) -> Setting
+    ensures { λ r. ⌜ r ≡ openedSetting setting relation ⌝ }
+{
+    let items = setting.items;
+    let more = items::opened(items, relation);
+    Setting {
+        items: more,
+        earlier: setting.earlier,
+    }
+}
+
+// Behind token 17: a relation, and a condition with its row open. A seventh item is refused before the relation is read.
+fn behind_exists(frame: &[u8], at: usize, setting: Setting, shape: &[u8]) -> Skip
+    ensures { λ r. ⌜ skipTold r ≡ skipped (now (frame .entry)) at (existing (openOf (now (shape .entry)) setting) readC) ⌝ }
+{
+    let items = setting.items;
+    if 6 <= items.number {
+        return Skip::Refused(5);
+    }
+    let inner = opened(setting, byte_at(frame, at));
+    match below(frame, at, 6, setting.earlier) {
+        Skip::Next(next) => condition(frame, next, inner, shape),
+        Skip::Refused(n) => Skip::Refused(n),
     }
 }

@@ -6,7 +6,7 @@ ghost use lib.ListN.{length, drop, getD};
 ghost use Rattle.sentences.specs.SheetOf.{languageOf, firstLine};
 ghost use Rattle.sentences.specs.Pieces.{pieces, pastLines, Over};
 
-const ENGLISH: [u8; 3786] = *b"\
+const ENGLISH: [u8; 3934] = *b"\
     Line \n\
     : \n\
     , which has no sentence of its own.\n\
@@ -15,9 +15,9 @@ const ENGLISH: [u8; 3786] = *b"\
     A line is not 1 to 120 pairs of the digits 0-9 and a-f, closed by a line feed (refusal 2).\n\
     The rule file does not end with a goal (refusal 3).\n\
     A line is too short or too long, or has a token that may not stand where it stands (refusal 4).\n\
-    A number is outside its limits: rows 0 to 8, columns 1 to 4, key mask within the columns, lo at most hi, key pairs 1 to 4, from items 1 to 3, selected columns 1 to 8, grouping columns 0 to 4, rounding step 1 to 1,000, aggregate 0 to 3, sign 0 or 1, at most 16 relations and 16 foreign keys (refusal 5).\n\
+    A number is outside its limits: rows 0 to 8, columns 1 to 4, key mask within the columns, lo at most hi, key pairs 1 to 4, from items 1 to 3, at most 6 with those of exists, selected columns 1 to 8, grouping columns 0 to 4, rounding step 1 to 1,000, aggregate 0 to 3, sign 0 or 1, at most 16 relations and 16 foreign keys (refusal 5).\n\
     A line names a relation, from item or column that is not there or does not fit, or its columns do not pair with the parent's key or the other view (refusal 6).\n\
-    An aggregate stands outside the having and select of an aggregate view or inside another, or a column outside every aggregate is not a grouping column (refusal 7).\n\
+    An aggregate stands outside the having and select of an aggregate view or inside another, a column outside every aggregate is not a grouping column, or an exists stands elsewhere than in where (refusal 7).\n\
     A view could have more than 64 rows (refusal 8).\n\
     A value could lie outside -2,147,483,648 to 2,147,483,647 (refusal 9).\n\
     The tables allow more than 16,777,216 databases (refusal 10).\n\
@@ -34,9 +34,9 @@ const ENGLISH: [u8; 3786] = *b"\
     it is not 1 to 120 pairs of the digits 0-9 and a-f, closed by a line feed (refusal 2).\n\
     its kind is unknown or out of order; the order is tables, foreign keys, views, one goal (refusal 3).\n\
     it is too short or too long, or has a token that may not stand where it stands (refusal 4).\n\
-    a number is outside its limits: rows 0 to 8, columns 1 to 4, key mask within the columns, lo at most hi, key pairs 1 to 4, from items 1 to 3, selected columns 1 to 8, grouping columns 0 to 4, rounding step 1 to 1,000, aggregate 0 to 3, sign 0 or 1, at most 16 relations and 16 foreign keys (refusal 5).\n\
+    a number is outside its limits: rows 0 to 8, columns 1 to 4, key mask within the columns, lo at most hi, key pairs 1 to 4, from items 1 to 3, at most 6 with those of exists, selected columns 1 to 8, grouping columns 0 to 4, rounding step 1 to 1,000, aggregate 0 to 3, sign 0 or 1, at most 16 relations and 16 foreign keys (refusal 5).\n\
     it names a relation, from item or column that is not there or does not fit, or its columns do not pair with the parent's key or the other view (refusal 6).\n\
-    an aggregate stands outside the having and select of an aggregate view or inside another, or a column outside every aggregate is not a grouping column (refusal 7).\n\
+    an aggregate stands outside the having and select of an aggregate view or inside another, a column outside every aggregate is not a grouping column, or an exists stands elsewhere than in where (refusal 7).\n\
     this view could have more than 64 rows (refusal 8).\n\
     a value could lie outside -2,147,483,648 to 2,147,483,647 (refusal 9).\n\
     the tables allow more than 16,777,216 databases (refusal 10).\n\
@@ -50,7 +50,7 @@ const ENGLISH: [u8; 3786] = *b"\
     the queue has more than 8 entries, or an entry's text ends beyond the text that was lent (refusal 18).\n\
 ";
 
-const FRENCH: [u8; 4433] = *b"\
+const FRENCH: [u8; 4587] = *b"\
     Ligne \n\
     \xc2\xa0: \n\
     , qui n\xe2\x80\x99a pas sa propre phrase.\n\
@@ -59,9 +59,9 @@ const FRENCH: [u8; 4433] = *b"\
     Une ligne n\xe2\x80\x99est pas faite de 1 \xc3\xa0 120 paires de chiffres 0-9 et a-f, suivies d\xe2\x80\x99un saut de ligne (refus 2).\n\
     Le fichier de r\xc3\xa8gles ne se termine pas par un objectif (refus 3).\n\
     Une ligne est trop courte ou trop longue, ou contient un code qui ne peut pas se trouver l\xc3\xa0 o\xc3\xb9 il est (refus 4).\n\
-    Un nombre est hors de ses limites\xc2\xa0: rang\xc3\xa9es 0 \xc3\xa0 8, colonnes 1 \xc3\xa0 4, masque de cl\xc3\xa9 dans les colonnes, lo au plus \xc3\xa9gal \xc3\xa0 hi, paires de cl\xc3\xa9 1 \xc3\xa0 4, \xc3\xa9l\xc3\xa9ments de from 1 \xc3\xa0 3, colonnes s\xc3\xa9lectionn\xc3\xa9es 1 \xc3\xa0 8, colonnes de regroupement 0 \xc3\xa0 4, pas d\xe2\x80\x99arrondi 1 \xc3\xa0 1\xe2\x80\xaf000, agr\xc3\xa9gat 0 \xc3\xa0 3, signe 0 ou 1, au plus 16 relations et 16 cl\xc3\xa9s \xc3\xa9trang\xc3\xa8res (refus 5).\n\
+    Un nombre est hors de ses limites\xc2\xa0: rang\xc3\xa9es 0 \xc3\xa0 8, colonnes 1 \xc3\xa0 4, masque de cl\xc3\xa9 dans les colonnes, lo au plus \xc3\xa9gal \xc3\xa0 hi, paires de cl\xc3\xa9 1 \xc3\xa0 4, \xc3\xa9l\xc3\xa9ments de from 1 \xc3\xa0 3, au plus 6 avec ceux des exists, colonnes s\xc3\xa9lectionn\xc3\xa9es 1 \xc3\xa0 8, colonnes de regroupement 0 \xc3\xa0 4, pas d\xe2\x80\x99arrondi 1 \xc3\xa0 1\xe2\x80\xaf000, agr\xc3\xa9gat 0 \xc3\xa0 3, signe 0 ou 1, au plus 16 relations et 16 cl\xc3\xa9s \xc3\xa9trang\xc3\xa8res (refus 5).\n\
     Une ligne nomme une relation, un \xc3\xa9l\xc3\xa9ment de from ou une colonne qui n\xe2\x80\x99existe pas ou ne convient pas, ou ses colonnes ne correspondent pas \xc3\xa0 la cl\xc3\xa9 du parent ou \xc3\xa0 l\xe2\x80\x99autre vue (refus 6).\n\
-    Un agr\xc3\xa9gat se trouve hors du having et du select d\xe2\x80\x99une vue d\xe2\x80\x99agr\xc3\xa9gation ou dans un autre, ou une colonne hors de tout agr\xc3\xa9gat n\xe2\x80\x99est pas une colonne de regroupement (refus 7).\n\
+    Un agr\xc3\xa9gat se trouve hors du having et du select d\xe2\x80\x99une vue d\xe2\x80\x99agr\xc3\xa9gation ou dans un autre, une colonne hors de tout agr\xc3\xa9gat n\xe2\x80\x99est pas une colonne de regroupement, ou un exists se trouve ailleurs que dans where (refus 7).\n\
     Une vue pourrait avoir plus de 64 rang\xc3\xa9es (refus 8).\n\
     Une valeur pourrait sortir de l\xe2\x80\x99intervalle de \xe2\x88\x922\xe2\x80\xaf147\xe2\x80\xaf483\xe2\x80\xaf648 \xc3\xa0 2\xe2\x80\xaf147\xe2\x80\xaf483\xe2\x80\xaf647 (refus 9).\n\
     Les tables permettent plus de 16\xe2\x80\xaf777\xe2\x80\xaf216 bases de donn\xc3\xa9es (refus 10).\n\
@@ -78,9 +78,9 @@ const FRENCH: [u8; 4433] = *b"\
     elle n\xe2\x80\x99est pas faite de 1 \xc3\xa0 120 paires de chiffres 0-9 et a-f, suivies d\xe2\x80\x99un saut de ligne (refus 2).\n\
     son type est inconnu ou n\xe2\x80\x99est pas \xc3\xa0 sa place\xe2\x80\xaf; l\xe2\x80\x99ordre est tables, cl\xc3\xa9s \xc3\xa9trang\xc3\xa8res, vues, un objectif (refus 3).\n\
     elle est trop courte ou trop longue, ou contient un code qui ne peut pas se trouver l\xc3\xa0 o\xc3\xb9 il est (refus 4).\n\
-    un nombre est hors de ses limites\xc2\xa0: rang\xc3\xa9es 0 \xc3\xa0 8, colonnes 1 \xc3\xa0 4, masque de cl\xc3\xa9 dans les colonnes, lo au plus \xc3\xa9gal \xc3\xa0 hi, paires de cl\xc3\xa9 1 \xc3\xa0 4, \xc3\xa9l\xc3\xa9ments de from 1 \xc3\xa0 3, colonnes s\xc3\xa9lectionn\xc3\xa9es 1 \xc3\xa0 8, colonnes de regroupement 0 \xc3\xa0 4, pas d\xe2\x80\x99arrondi 1 \xc3\xa0 1\xe2\x80\xaf000, agr\xc3\xa9gat 0 \xc3\xa0 3, signe 0 ou 1, au plus 16 relations et 16 cl\xc3\xa9s \xc3\xa9trang\xc3\xa8res (refus 5).\n\
+    un nombre est hors de ses limites\xc2\xa0: rang\xc3\xa9es 0 \xc3\xa0 8, colonnes 1 \xc3\xa0 4, masque de cl\xc3\xa9 dans les colonnes, lo au plus \xc3\xa9gal \xc3\xa0 hi, paires de cl\xc3\xa9 1 \xc3\xa0 4, \xc3\xa9l\xc3\xa9ments de from 1 \xc3\xa0 3, au plus 6 avec ceux des exists, colonnes s\xc3\xa9lectionn\xc3\xa9es 1 \xc3\xa0 8, colonnes de regroupement 0 \xc3\xa0 4, pas d\xe2\x80\x99arrondi 1 \xc3\xa0 1\xe2\x80\xaf000, agr\xc3\xa9gat 0 \xc3\xa0 3, signe 0 ou 1, au plus 16 relations et 16 cl\xc3\xa9s \xc3\xa9trang\xc3\xa8res (refus 5).\n\
     elle nomme une relation, un \xc3\xa9l\xc3\xa9ment de from ou une colonne qui n\xe2\x80\x99existe pas ou ne convient pas, ou ses colonnes ne correspondent pas \xc3\xa0 la cl\xc3\xa9 du parent ou \xc3\xa0 l\xe2\x80\x99autre vue (refus 6).\n\
-    un agr\xc3\xa9gat se trouve hors du having et du select d\xe2\x80\x99une vue d\xe2\x80\x99agr\xc3\xa9gation ou dans un autre, ou une colonne hors de tout agr\xc3\xa9gat n\xe2\x80\x99est pas une colonne de regroupement (refus 7).\n\
+    un agr\xc3\xa9gat se trouve hors du having et du select d\xe2\x80\x99une vue d\xe2\x80\x99agr\xc3\xa9gation ou dans un autre, une colonne hors de tout agr\xc3\xa9gat n\xe2\x80\x99est pas une colonne de regroupement, ou un exists se trouve ailleurs que dans where (refus 7).\n\
     cette vue pourrait avoir plus de 64 rang\xc3\xa9es (refus 8).\n\
     une valeur pourrait sortir de l\xe2\x80\x99intervalle de \xe2\x88\x922\xe2\x80\xaf147\xe2\x80\xaf483\xe2\x80\xaf648 \xc3\xa0 2\xe2\x80\xaf147\xe2\x80\xaf483\xe2\x80\xaf647 (refus 9).\n\
     les tables permettent plus de 16\xe2\x80\xaf777\xe2\x80\xaf216 bases de donn\xc3\xa9es (refus 10).\n\

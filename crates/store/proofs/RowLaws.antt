@@ -19,7 +19,7 @@ use Rattle.store.specs.Strides
 use Rattle.store.specs.Layout.{sizes, cellIn, putCell, relationLimit, rowLimit, columnLimit, area, OnlyCells}
 use Rattle.store.specs.Rows.{listed, rowIn, rowsIn, putCells, room, putRow, rowOf, withValue}
 use Rattle.store.specs.declared.Row.{Row as Values}
-use Rattle.store.proofs.Listed.{listed-same, length-listed, getD-listed, set-last, set-listed, drop-set, map-set}
+use Rattle.meaning.proofs.Listed.{listed-same, length-listed, getD-listed, set-last, set-listed, drop-set, map-set}
 use Rattle.store.proofs.StrideLaws
 
 -- ---- reading

@@ -18,8 +18,8 @@ use Rattle.value.proofs.Values.{number-stored}
 use Rattle.value.proofs.Decides.{by-test, and-parts}
 use Rattle.meaning.specs.Syntax.{Row}
 use Rattle.meaning.specs.Evaluation.{missing}
-use Rattle.store.specs.Strides.{Sizes, listed, stretch, area, inside, position, cellIn, putCell, rowIn, rowsIn, putCells, room, putRow, RowPut, CellOf, OnlyCells}
-use Rattle.store.proofs.Listed.{listed-same, length-listed, getD-listed, listed-getD}
+use Rattle.store.specs.Strides.{Sizes, listed, stretch, area, inside, position, cellIn, putCell, rowIn, rowsIn, putCells, room, putRow, RowPut, OnlyCells}
+use Rattle.meaning.proofs.Listed.{listed-same, length-listed, getD-listed, listed-getD}
 
 -- ---- numbers
 

@@ -11,11 +11,7 @@ use lib.ListN.{length, getD, set}
 use Rattle.value.specs.Value.{Value, stored}
 use Rattle.meaning.specs.Syntax.{Row}
 use Rattle.meaning.specs.Evaluation.{missing}
-
--- f 0, f 1, .., f (n - 1), as a loop that appends makes them
-unfoldable pub listed : {A : Type 0} → (ℕ → A) → ℕ → List A
-listed f zero = []
-listed f (suc n) = listed f n ++ (f n ∷ [])
+unfoldable pub use Rattle.meaning.specs.Lists.{listed}
 
 -- how many relations, rows of each and columns of a row there are, and numbers kept free behind a relation's rows
 pub record Sizes : Type 0 where

@@ -1,7 +1,7 @@
 -- "Lines of hexadecimal, one frame a line: digits 0-9 and a-f, two a byte, each line closed by LF, 1 to 120 frame bytes a line. The
 -- file has 1 to 8,192 bytes." Texts and frames are lists of bytes. Assumes nothing: these are definitions, and they compute.
 use mathlib.Core.Path.{_≡_}
-use mathlib.Core.Bool.{Bool, true, false, cond}
+use mathlib.Core.Bool.{cond}
 use mathlib.Core.List.{List, [], _∷_, _++_}
 use Prim.Native.Nat.{ℕ, _+_, _*_, _-_, _/_, _%_, _≤_, _<_}
 use lib.Dec.{ltb, eqb}

@@ -1,6 +1,6 @@
 -- The laws of values, which every other crate uses in place of their definitions. Assumes nothing.
 use mathlib.Core.Path.{_≡_, refl, sym, ap, _∙_}
-use mathlib.Core.Bool.{Bool, true, false, not}
+use mathlib.Core.Bool.{Bool, true, false, not, true≢false}
 use mathlib.Core.List.{List, [], _∷_, _++_, foldr}
 use mathlib.Core.Option.{none, some}
 use Prim.Native.Nat.{ℕ, zero, suc, _≤_, _<_}
@@ -11,7 +11,7 @@ use lib.ListN.{length}
 use lib.Signed.{_≤ℤ_}
 use Rattle.value.specs.Bag.{All, Same}
 use Rattle.value.specs.Integer.{low32, high32, low16, high16, minZ, maxZ, leastEnd, greatestEnd, roundZ}
-use Rattle.value.specs.Value.{Operation, operationAt, applyZ, Comparison, comparisonAt, Connective, connectiveAt, Aggregate, aggregateAt, sure, negate, holds, Value, apply, round, valueTest, Tally, start, combine, weight, gather, more, finish, tally, total, TallyBetween, TallyHeld, Between, between, Held, narrowed, narrowedTally, stored, shown, Cell, Column, InColumn, inColumn, size, digit, digitOf}
+use Rattle.value.specs.Value.{Operation, operationAt, applyZ, Comparison, comparisonAt, Connective, connectiveAt, Aggregate, aggregateAt, sure, negate, holds, Value, apply, round, valueTest, Tally, start, combine, weight, gather, more, finish, tally, total, TallyBetween, TallyHeld, Between, between, Held, narrowed, narrowedTally, stored, shown, Cell, Column, InColumn, inColumn, size, digit, digitOf, Truth, connect}
 use Rattle.value.proofs.Decides.{Decides, and-dec, by-dec}
 use Rattle.value.proofs.Linear.{‵, _⊕_, _⊗_, ≤-by, ≤-to, ≤-parts, sum-parts, diff-parts, magnitude-parts, ints}
 use Rattle.value.proofs.Order.{≤-trans, ≤-self, ≤-dec, min-below, max-above, below-min, above-max, min-comm, max-comm, min-assoc, max-assoc, In, sum-hull, difference-hull, product-hull, multiple-low, multiple-high}
@@ -66,6 +66,17 @@ pub negate-sure : (b : Bool) → negate (sure b) ≡ sure (not b)
 unfolding negate sure
 negate-sure true = refl
 negate-sure false = refl
+
+-- a truth that settles a connection, whatever the other is
+pub connect-false : (t u : Truth) → holds (negate t) ≡ true → connect Connective.conjunction t u ≡ t
+unfolding holds negate connect
+connect-false Truth.True u h = absurd (true≢false (sym h))
+connect-false Truth.False u h = refl
+
+pub connect-true : (t u : Truth) → holds t ≡ true → connect Connective.disjunction t u ≡ t
+unfolding holds connect
+connect-true Truth.True u h = refl
+connect-true Truth.False u h = absurd (true≢false (sym h))
 
 -- ---- bounds
 pub between-wider : {l h l′ h′ : ℤ} {v : Value} → l′ ≤ℤ l → h ≤ℤ h′ → Between l h v → Between l′ h′ v

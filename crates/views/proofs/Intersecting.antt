@@ -20,7 +20,7 @@ use Rattle.meaning.proofs.ListSteps.{common-snoc}
 use Rattle.store.specs.Layout.{columnLimit, cellIn}
 use Rattle.store.specs.Rows.{listed, rowIn, rowsIn, putRow, rowOf}
 use Rattle.store.specs.declared.Row.{Row as Values}
-use Rattle.store.proofs.Listed.{length-listed}
+use Rattle.meaning.proofs.Listed.{length-listed}
 use Rattle.store.proofs.RowLaws.{rows-none, rows-more, row-length, put-read, put-grows}
 use Rattle.views.specs.Copies.{Fits, Appended, KeptRows, keptNext, keptRows, Intersection}
 use Rattle.views.proofs.Copying.{apart-same, apart-more, apart-put, apart-rows, row-kept}

@@ -7,6 +7,8 @@ pub mod Picks
 pub mod Parts
 pub mod Means
 pub mod Gathered
+pub mod Existing
+pub mod Passing
 -- what callers use
 pub mod Columns
 pub mod Uses

@@ -2,6 +2,7 @@
 pub mod Numbers
 pub mod Scopes
 pub mod Evaluated
+pub mod Ends
 -- rows written behind others
 pub mod Copies
 -- rows of basic and aggregate views

@@ -7,7 +7,8 @@ use lib.ListN.{length}
 use borrow.Author.Needs.{needs}
 use borrow.Fn.Kinds.{In}
 use borrow.Fn.PlainCycle.{Measures, is, falls, and}
-use Rattle.bounds.proofs.Walks.{two-in-turn, endE, endC, on-constant, on-column, on-operation, on-rounding, on-choice, on-aggregate, unknownE, on-always, on-comparison, on-negated, on-connection, unknownC}
+use Rattle.catalog.proofs.ItemLaws.{opened-last}
+use Rattle.bounds.proofs.Walks.{two-in-turn, endE, endC, on-constant, on-column, on-operation, on-rounding, on-choice, on-aggregate, unknownE, on-always, on-comparison, on-negated, on-connection, on-exists, unknownC}
 use Rattle.bounds.proofs.condition.Reads as condition
 use Rattle.bounds.proofs.condition.Kinds as condition-kinds
 use Rattle.bounds.proofs.+condition+expression+two.Lts-condition as condition-lts
@@ -22,8 +23,11 @@ use Rattle.slice.proofs.byte_at.Reads as byte-at-reads
 use Rattle.bounds.proofs.chosen.Reads as chosen-reads
 use Rattle.bounds.proofs.column.Reads as column-reads
 use Rattle.bounds.proofs.constant.Reads as constant-reads
+use Rattle.bounds.proofs.existing.Reads as existing-reads
+use Rattle.bounds.proofs.in_where.Reads as in-where-reads
 use Rattle.bounds.proofs.inside.Reads as inside-reads
 use Rattle.bounds.proofs.is_within.Reads as is-within-reads
+use Rattle.catalog.proofs.items.opened.Reads as opened-reads
 use Rattle.bounds.proofs.operated.Reads as operated-reads
 use Rattle.bounds.proofs.rounded.Reads as rounded-reads
 use Rattle.bounds.proofs.sizing.Reads as sizing-reads
@@ -64,7 +68,24 @@ two-below t = and 3 two-kinds.ps (falls 3 two-kinds.ps _<_ μ-two t) two.Pre
 
 module _ (t : ℕ) where
   abbrev condition-uses : condition-lts.Claims
-  condition-uses = (testing-reads.Asked, testing-reads.Learnt, condition-below t, condition.Post, two-below t, two.Post, is-within-reads.Asked, is-within-reads.Learnt)
+  condition-uses = (
+    testing-reads.Asked,
+    testing-reads.Learnt,
+    condition-below t,
+    condition.Post,
+    byte-at-reads.Asked,
+    byte-at-reads.Learnt,
+    opened-reads.Asked,
+    opened-reads.Learnt,
+    in-where-reads.Asked,
+    in-where-reads.Learnt,
+    existing-reads.Asked,
+    existing-reads.Learnt,
+    two-below t,
+    two.Post,
+    is-within-reads.Asked,
+    is-within-reads.Learnt,
+  )
 
   abbrev expression-uses : expression-lts.Claims
   expression-uses = (
@@ -117,6 +138,24 @@ module _ (t : ℕ) where
   condition-condition-requires : condition-lts.Need-condition-requires condition-uses (condition-at t) condition.Post
   condition-condition-requires c κs = omega arith
 
+  condition-byte-at-requires : condition-lts.Need-byte-at-requires condition-uses (condition-at t) condition.Post
+  condition-byte-at-requires c κs = search needs
+
+  condition-opened-requires : condition-lts.Need-opened-requires condition-uses (condition-at t) condition.Post
+  condition-opened-requires c κs = search needs
+
+  condition-add-condition : condition-lts.Need-add-condition condition-uses (condition-at t) condition.Post
+  condition-add-condition c = search needs
+
+  condition-in-where-requires : condition-lts.Need-in-where-requires condition-uses (condition-at t) condition.Post
+  condition-in-where-requires c κs = search needs
+
+  condition-condition-requires-2 : condition-lts.Need-condition-requires-2 condition-uses (condition-at t) condition.Post
+  condition-condition-requires-2 c κs = omega arith
+
+  condition-existing-requires : condition-lts.Need-existing-requires condition-uses (condition-at t) condition.Post
+  condition-existing-requires c κs = search needs
+
   condition-two-requires : condition-lts.Need-two-requires condition-uses (condition-at t) condition.Post
   condition-two-requires c κs = omega arith
 
@@ -129,11 +168,11 @@ module _ (t : ℕ) where
   condition-testing-requires-3 : condition-lts.Need-testing-requires-3 condition-uses (condition-at t) condition.Post
   condition-testing-requires-3 c κs = search needs
 
-  condition-condition-requires-2 : condition-lts.Need-condition-requires-2 condition-uses (condition-at t) condition.Post
-  condition-condition-requires-2 c κs = omega arith
-
   condition-condition-requires-3 : condition-lts.Need-condition-requires-3 condition-uses (condition-at t) condition.Post
   condition-condition-requires-3 c κs = omega arith
+
+  condition-condition-requires-4 : condition-lts.Need-condition-requires-4 condition-uses (condition-at t) condition.Post
+  condition-condition-requires-4 c κs = omega arith
 
   condition-testing-requires-4 : condition-lts.Need-testing-requires-4 condition-uses (condition-at t) condition.Post
   condition-testing-requires-4 c κs = search needs
@@ -148,15 +187,20 @@ module _ (t : ℕ) where
   condition-returns-3 c = on-negated _ _ _ _ _ _ (c .before .before .before .if1 .left) (c .before .match .keys2) (c .condition .ensures)
 
   condition-returns-4 : condition-lts.Need-returns-4 condition-uses (condition-at t) condition.Post
-  condition-returns-4 c = on-comparison _ _ _ _ _ _ (c .before .before .before .before .before .before .before .before .if1 .left) (omega arith) (omega arith) (c .before .before .before .two .ensures)
-      (c .before .before .is-within .ensures) (c .before .is-within2 .ensures) (c .testing3 .ensures)
+  condition-returns-4 c = on-exists _ _ _ _ _ _ (c .before .before .before .before .before .before .before .if1 .left) (c .before .before .before .before .before .match .keys3)
+      (opened-last _ (c .before .before .before .before .byte-at .ensures) (c .before .before .before .opened .ensures))
+      (c .before .before .in-where .ensures) (c .before .condition2 .ensures) (c .existing .ensures)
 
   condition-returns-5 : condition-lts.Need-returns-5 condition-uses (condition-at t) condition.Post
-  condition-returns-5 c = on-connection _ _ _ _ _ _ (c .before .before .before .before .before .before .before .before .before .before .before .before .if1 .left) (omega arith) (omega arith)
-      (c .before .before .before .before .before .before .condition2 .ensures) (c .before .before .before .before .before .condition3 .ensures) (c .testing4 .ensures)
+  condition-returns-5 c = on-comparison _ _ _ _ _ _ (c .before .before .before .before .before .before .before .before .if1 .left) (omega arith) (omega arith) (c .before .before .before .two .ensures)
+      (c .before .before .is-within .ensures) (c .before .is-within2 .ensures) (c .testing3 .ensures)
 
   condition-returns-6 : condition-lts.Need-returns-6 condition-uses (condition-at t) condition.Post
-  condition-returns-6 c = unknownC _ _ _ _ _ _ (c .before .before .before .before .if1 .left) (λ l h. ⊎-elim (λ u. omega arith) (λ u. omega arith) (c .before .if2 .came)) (c .testing5 .ensures)
+  condition-returns-6 c = on-connection _ _ _ _ _ _ (c .before .before .before .before .before .before .before .before .before .before .before .before .if1 .left) (omega arith) (omega arith)
+      (c .before .before .before .before .before .before .condition3 .ensures) (c .before .before .before .before .before .condition4 .ensures) (c .testing4 .ensures)
+
+  condition-returns-7 : condition-lts.Need-returns-7 condition-uses (condition-at t) condition.Post
+  condition-returns-7 c = unknownC _ _ _ _ _ _ (c .before .before .before .before .if1 .left) (λ l h. ⊎-elim (λ u. omega arith) (λ u. omega arith) (c .before .if2 .came)) (c .testing5 .ensures)
 
   expression-sizing-requires : expression-lts.Need-sizing-requires expression-uses (expression-at t) expression.Post
   expression-sizing-requires c κs = search needs
@@ -262,9 +306,12 @@ pub +condition+expression+two-spec : {M : Type 1} → statement M
 +condition+expression+two-spec =
     close μ-condition μ-expression μ-two
     (λ t. condition-lts.spec (condition-uses t) (condition-at t) condition.Post
-    (condition-testing-requires t) (condition-returns t) (condition-shared-slice-read-token t) (condition-add-body t) (condition-testing-requires-2 t) (condition-condition-requires t) (condition-two-requires t)
-    (condition-is-within-requires t) (condition-is-within-requires-2 t) (condition-testing-requires-3 t) (condition-condition-requires-2 t) (condition-condition-requires-3 t) (condition-testing-requires-4 t)
-    (condition-testing-requires-5 t) (condition-returns-2 t) (condition-returns-3 t) (condition-returns-4 t) (condition-returns-5 t) (condition-returns-6 t))
+    (condition-testing-requires t) (condition-returns t) (condition-shared-slice-read-token t) (condition-add-body t) (condition-testing-requires-2 t)
+    (condition-condition-requires t) (condition-byte-at-requires t) (condition-opened-requires t) (condition-add-condition t)
+    (condition-in-where-requires t) (condition-condition-requires-2 t) (condition-existing-requires t) (condition-two-requires t)
+    (condition-is-within-requires t) (condition-is-within-requires-2 t) (condition-testing-requires-3 t) (condition-condition-requires-3 t)
+    (condition-condition-requires-4 t) (condition-testing-requires-4 t) (condition-testing-requires-5 t) (condition-returns-2 t)
+    (condition-returns-3 t) (condition-returns-4 t) (condition-returns-5 t) (condition-returns-6 t) (condition-returns-7 t))
     (λ t. expression-lts.spec (expression-uses t) (expression-at t) expression.Post
     (expression-sizing-requires t) (expression-returns t) (expression-shared-slice-read-token t) (expression-add-body t) (expression-constant-requires t) (expression-column-requires t) (expression-add-expression t)
     (expression-expression-requires t) (expression-step-requires t) (expression-rounded-requires t) (expression-condition-requires t) (expression-two-requires t) (expression-chosen-requires t) (expression-add-expression-2 t)

@@ -7,20 +7,17 @@ use Rattle.cases.proofs.NeedLaws.{rows-needed, rows-asked, rows-unasked
 use Rattle.cases.proofs.needs.need_rows.Statement.{statement}
 use Rattle.cases.proofs.needs.need_rows.Tie as tie
 
-names-requires : tie.Need-names-requires
-names-requires c κs = search needs
-
 is-needed-requires : tie.Need-is-needed-requires
 is-needed-requires c κs = search needs
 
-set-names-requires : tie.Need-set-names-requires
-set-names-requires c κs = search needs
+set-named-requires : tie.Need-set-named-requires
+set-named-requires c κs = search needs
 
 same-length : tie.Need-same-length
 same-length c = search needs
 
 returns : tie.Need-returns
-returns c = rows-needed (c .before .before .before .before .before .is-needed .ensures) refl (c .before .before .before .before .if1 .taken) (c .before .before .before .before .before .before .before .names .ensures) (c .before .before .set-names .ensures)
+returns c = rows-needed (c .before .before .before .before .before .is-needed .ensures) refl (c .before .before .before .before .if1 .taken) (c .before .before .set-named .ensures)
 
 is-asked-requires : tie.Need-is-asked-requires
 is-asked-requires c κs = search needs
@@ -43,24 +40,25 @@ returns-3 c = rows-of-set (c .before .before .before .before .before .before .is
     (c .before .before .before .before .before .if1 .left) (not-false (c .before .before .before .is-asked .result) (c .before .before .if2 .left))
     (omega (arith, c .before .byte-at .ensures, c .if3 .taken))
 
-set-names-requires-2 : tie.Need-set-names-requires-2
-set-names-requires-2 c κs = search needs
+set-named-requires-2 : tie.Need-set-named-requires-2
+set-named-requires-2 c κs = search needs
 
 same-length-4 : tie.Need-same-length-4
 same-length-4 c = search needs
 
 returns-4 : tie.Need-returns-4
-returns-4 c = rows-asked (c .before .before .before .before .before .before .before .before .before .before .is-needed .ensures) (c .before .before .before .before .before .before .before .is-asked .ensures)
-    (c .before .before .before .before .before .before .before .before .before .if1 .left) (not-false (c .before .before .before .before .before .before .before .is-asked .result) (c .before .before .before .before .before .before .if2 .left))
-    (omega (arith, c .before .before .before .before .before .byte-at .ensures, c .before .before .before .before .if3 .left)) (c .before .before .before .before .before .before .before .before .before .before .before .before .names .ensures) (c .before .before .set-names2 .ensures)
+returns-4 c =
+    let asked = c .before .before .before .before .before .before .before .is-asked in
+    rows-asked (c .before .before .before .before .before .before .before .before .before .before .is-needed .ensures) (asked .ensures)
+    (c .before .before .before .before .before .before .before .before .before .if1 .left) (not-false (asked .result) (c .before .before .before .before .before .before .if2 .left))
+    (omega (arith, c .before .before .before .before .before .byte-at .ensures, c .before .before .before .before .if3 .left)) (c .before .before .set-named2 .ensures)
 
 pub need-rows-spec : {M : Type 1} → statement M
 need-rows-spec =
     tie.close
     (tie.spec
-    names-requires
     is-needed-requires
-    set-names-requires
+    set-named-requires
     same-length
     returns
     is-asked-requires
@@ -69,6 +67,6 @@ need-rows-spec =
     byte-at-requires
     same-length-3
     returns-3
-    set-names-requires-2
+    set-named-requires-2
     same-length-4
     returns-4)

@@ -1,5 +1,5 @@
 -- `catalog::items::from_items` meets its contract. Assumes nothing.
-use mathlib.Core.Path.{ap, _∙_}
+use mathlib.Core.Path.{ap}
 use borrow.Author.Needs.{needs}
 use Rattle.catalog.specs.Items.{itemsOf}
 use Rattle.catalog.proofs.items.from_items.Statement.{statement}

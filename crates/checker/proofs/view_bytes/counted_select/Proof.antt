@@ -1,5 +1,5 @@
 -- `checker::view_bytes::counted_select` meets its contract. Assumes nothing.
-use Rattle.catalog.specs.Items.{relationsIn, widthsIn}
+use Rattle.prefix.specs.Skipped.{openOf}
 use Rattle.checker.specs.Faults.{within}
 use Rattle.checker.proofs.ViewFrameLaws.{count-then}
 use Rattle.checker.specs.ViewFaults.{conditionSelect, countedSelect}
@@ -24,8 +24,7 @@ first-of-requires c κs = search needs
 
 returns : tie.Need-returns
 unfolding countedSelect
-returns c = count-then (c .before .before .before .before .before .before .args .frame .now) (c .before .before .before .before .before .before .args .at) (within 1 8) (conditionSelect (widthsIn
-    (c .before .before .before .before .before .before .args .shape .now) (relationsIn (c .before .before .before .before .before .before .args .items)))) (c .before .before .before .byte-at .ensures)
+returns c = count-then (c .before .before .before .before .before .before .args .frame .now) (c .before .before .before .before .before .before .args .at) (within 1 8) (conditionSelect (openOf (c .before .before .before .before .before .before .args .shape .now) (c .before .before .before .before .before .before .args .setting))) (c .before .before .before .byte-at .ensures)
     (c .before .before .between .ensures) (c .before .condition-select .ensures) (c .first-of .ensures)
 
 pub counted-select-spec : {M : Type 1} → statement M

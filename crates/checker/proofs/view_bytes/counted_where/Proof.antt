@@ -1,5 +1,5 @@
 -- `checker::view_bytes::counted_where` meets its contract. Assumes nothing.
-use Rattle.catalog.specs.Items.{relationsIn, widthsIn}
+use Rattle.prefix.specs.Skipped.{openOf}
 use Rattle.checker.specs.Faults.{within}
 use Rattle.checker.proofs.ViewFrameLaws.{count-then}
 use Rattle.checker.specs.ViewFaults.{whereGroups, countedWhere}
@@ -24,8 +24,7 @@ first-of-requires c κs = search needs
 
 returns : tie.Need-returns
 unfolding countedWhere
-returns c = count-then (c .before .before .before .before .before .before .args .frame .now) (c .before .before .before .before .before .before .args .at) (within 1 8) (whereGroups (widthsIn
-    (c .before .before .before .before .before .before .args .shape .now) (relationsIn (c .before .before .before .before .before .before .args .items))) (c .before .before .before .before .before .before .args .g))
+returns c = count-then (c .before .before .before .before .before .before .args .frame .now) (c .before .before .before .before .before .before .args .at) (within 1 8) (whereGroups (openOf (c .before .before .before .before .before .before .args .shape .now) (c .before .before .before .before .before .before .args .setting)) (c .before .before .before .before .before .before .args .g))
     (c .before .before .before .byte-at .ensures) (c .before .before .between .ensures) (c .before .where-groups .ensures) (c .first-of .ensures)
 
 pub counted-where-spec : {M : Type 1} → statement M

@@ -1,20 +1,19 @@
 -- `checker::view_bytes::expressions` meets its contract. Assumes nothing.
 use borrow.Author.Needs.{needs}
-use Rattle.prefix.specs.Skipped.{skipTold}
+use Rattle.prefix.specs.Skipped.{skipTold, openOf}
 use native.Mathlib.Omega.{arith}
 use mathlib.Core.Path.{ap, sym}
 use Rattle.language.specs.Reading.{readE}
-use Rattle.catalog.specs.Items.{relationsIn, openIn}
 use Rattle.prefix.proofs.Ends.{fieldE}
 use Rattle.checker.proofs.ViewByteLaws.{Repeated, repeat-holds, repeat-again, repeat-stops, repeat-ends}
 use Rattle.checker.proofs.view_bytes.expressions.Statement.{statement}
 use Rattle.checker.proofs.view_bytes.expressions.Tie as tie
 
 abbrev Inv-loop : tie.InvT-loop
-Inv-loop frame at items shape n next₀ left₀ next left = Repeated frame (readE (openIn shape (relationsIn items))) at n next left
+Inv-loop frame at setting shape n next₀ left₀ next left = Repeated frame (readE (openOf shape setting)) at n next left
 
 abbrev μ-loop : tie.MeasureT-loop
-μ-loop frame at items shape n next₀ left₀ next left = left
+μ-loop frame at setting shape n next₀ left₀ next left = left
 
 loop-holds : tie.Need-loop-holds Inv-loop μ-loop
 loop-holds c = repeat-holds _ (fieldE _) _ _ (c .before .before .pre)

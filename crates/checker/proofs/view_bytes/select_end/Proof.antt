@@ -1,8 +1,7 @@
 -- `checker::view_bytes::select_end` meets its contract. Assumes nothing.
 use mathlib.Core.Path.{ap}
 use borrow.Author.Needs.{needs}
-use Rattle.prefix.specs.Skipped.{skipTold}
-use Rattle.catalog.specs.Items.{relationsIn, widthsIn}
+use Rattle.prefix.specs.Skipped.{skipTold, openOf}
 use Rattle.checker.proofs.ViewByteLaws.{select-next, select-stop}
 use Rattle.checker.proofs.view_bytes.select_end.Statement.{statement}
 use Rattle.checker.proofs.view_bytes.select_end.Tie as tie
@@ -20,12 +19,12 @@ enum-known-number : tie.Need-enum-known-number
 enum-known-number c = search needs
 
 returns : tie.Need-returns
-returns c = select-next _ (widthsIn (c .before .before .before .before .before .before .before .args .shape .now) (relationsIn (c .before .before .before .before .before .before .before .args .items))) _ _
+returns c = select-next _ (openOf (c .before .before .before .before .before .before .before .args .shape .now) (c .before .before .before .before .before .before .before .args .setting)) _ _
     (c .before .before .before .before .expressions .ensures) (c .before .before .before .before .before .before .before .pre)
     (ap skipTold (c .before .before .next .given .1)) (c .ends-at .ensures)
 
 returns-2 : tie.Need-returns-2
-returns-2 c = select-stop _ (widthsIn (c .before .before .before .before .before .before .args .shape .now) (relationsIn (c .before .before .before .before .before .before .args .items))) _ _
+returns-2 c = select-stop _ (openOf (c .before .before .before .before .before .before .args .shape .now) (c .before .before .before .before .before .before .args .setting)) _ _
     (c .before .before .before .expressions .ensures) (ap skipTold (c .before .number .given .1))
 
 pub select-end-spec : {M : Type 1} → statement M

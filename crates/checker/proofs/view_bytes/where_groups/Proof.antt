@@ -1,8 +1,7 @@
 -- `checker::view_bytes::where_groups` meets its contract. Assumes nothing.
 use mathlib.Core.Path.{ap}
 use borrow.Author.Needs.{needs}
-use Rattle.prefix.specs.Skipped.{skipTold}
-use Rattle.catalog.specs.Items.{relationsIn, widthsIn}
+use Rattle.prefix.specs.Skipped.{skipTold, openOf}
 use Rattle.checker.proofs.ViewByteLaws.{condition-inside, groups-next, groups-stop, where-stop}
 use Rattle.checker.proofs.view_bytes.where_groups.Statement.{statement}
 use Rattle.checker.proofs.view_bytes.where_groups.Tie as tie
@@ -29,13 +28,11 @@ enum-known-number-2 : tie.Need-enum-known-number-2
 enum-known-number-2 c = search needs
 
 returns : tie.Need-returns
-returns c = groups-next _ (widthsIn (c .before .before .before .before .before .before .before .before .before .before .before .args .shape .now) (relationsIn
-    (c .before .before .before .before .before .before .before .before .before .before .before .args .items))) _ (c .before .before .before .before .before .before .before .before .condition .ensures) _ _
+returns c = groups-next _ (openOf (c .before .before .before .before .before .before .before .before .before .before .before .before .args .shape .now) (c .before .before .before .before .before .before .before .before .before .before .before .before .args .setting)) _ (c .before .before .before .before .before .before .before .before .condition .ensures) _ _
     (ap skipTold (c .before .before .before .before .before .before .next .given .1)) (c .before .before .before .before .places .ensures) (ap skipTold (c .before .before .having .given .1)) (c .condition-select .ensures)
 
 returns-2 : tie.Need-returns-2
-returns-2 c = groups-stop _ (widthsIn (c .before .before .before .before .before .before .before .before .before .before .args .shape .now) (relationsIn
-    (c .before .before .before .before .before .before .before .before .before .before .args .items))) _ (c .before .before .before .before .before .before .before .condition .ensures) _ _
+returns-2 c = groups-stop _ (openOf (c .before .before .before .before .before .before .before .before .before .before .before .args .shape .now) (c .before .before .before .before .before .before .before .before .before .before .before .args .setting)) _ (c .before .before .before .before .before .before .before .condition .ensures) _ _
     (ap skipTold (c .before .before .before .before .before .next .given .1)) (c .before .before .before .places .ensures) (ap skipTold (c .before .number .given .1))
 
 returns-3 : tie.Need-returns-3

@@ -6,11 +6,12 @@ use Prim.Native.Nat.{ℕ, zero, suc, _<_}
 use native.Mathlib.Nat.{eq-or-lt-of-le, le-of-suc-le-suc}
 use native.Mathlib.Omega.{arith}
 use lib.Dec.{eqb}
-use lib.ListN.{length, getD, set, drop, length-append, length-set, List·getD-append}
+use lib.ListN.{length, getD, set, drop, length-append, length-map, length-set, List·getD-append}
 use lib.Seq.{getD-at, getD-set-same, getD-set-other, ext-getD, set-at}
 use borrow.Author.Tests.{eqb-true, eqb-false}
 use Rattle.value.proofs.Decides.{by-test}
-use Rattle.store.specs.Rows.{listed}
+use Rattle.meaning.specs.Lists.{listed}
+use Rattle.meaning.proofs.ListSteps.{map-at}
 
 module _ {A : Type 0} where
   pub listed-same : (f g : ℕ → A) (n : ℕ) → ((k : ℕ) → k < n → f k ≡ g k) → listed f n ≡ listed g n
@@ -62,3 +63,9 @@ module _ {A B : Type 0} (f : A → B) where
   map-set [] k a = refl
   map-set (x ∷ l) zero a = refl
   map-set (x ∷ l) (suc k) a = ap (λ t. f x ∷ t) (map-set l k a)
+
+  -- the images of a list, by number
+  pub map-listed : (l : List A) (d : A) (g : ℕ → B) (n : ℕ) → length l ≡ n → ((i : ℕ) → i < n → f (getD l i d) ≡ g i) → map f l ≡ listed g n
+  map-listed l d g n e h =
+      sym (listed-getD (map f l) (f d) n (length-map l f ∙ e))
+      ∙ listed-same (λ i. getD (map f l) i (f d)) g n (λ i k. map-at f l i d (f d) (omega arith) ∙ h i k)
