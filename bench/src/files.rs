@@ -2,7 +2,7 @@
 
 /// Files without a case, so that a look tries every candidate: a name, what the file has, and its
 /// frames.
-pub const FILES: [(&str, &str, &[&str]); 8] = [
+pub const FILES: [(&str, &str, &[&str]); 9] = [
     (
         "two-views",
         "two rows, a view of a view",
@@ -72,6 +72,17 @@ pub const FILES: [(&str, &str, &[&str]); 8] = [
             "05 03 03",
             "03 01 04 01 10 010000",
             "07 05 00",
+        ],
+    ),
+    (
+        "exists",
+        "an exists over two rows, and in it one over a view",
+        &[
+            "01 02 01 00 0000 000f",
+            "01 02 01 00 0000 000f",
+            "03 01 01 01 12 000004 010000 010000",
+            "03 01 00 01 17 01 15 12 010000 010100 17 02 15 12 010100 010200 12 010200 010000 010000",
+            "07 03 00",
         ],
     ),
     (

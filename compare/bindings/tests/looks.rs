@@ -74,6 +74,8 @@ struct Comparison {
     numbers: Vec<i32>,
     looks: u64,
     plain: u64,
+    /// Looks at a file with exists.
+    exists: u64,
     met: BTreeMap<String, u64>,
 }
 
@@ -85,6 +87,7 @@ impl Comparison {
             rng,
             looks: 0,
             plain: 0,
+            exists: 0,
             met: BTreeMap::new(),
         }
     }
@@ -153,6 +156,7 @@ impl Comparison {
         for length in (0..cells).chain([cells, cells + 1, cells + 2].repeat(3)) {
             let one = self.draw(&text, file.candidates, length);
             self.compare(&one, plain);
+            self.exists += u64::from(file.syntax.has_exists());
         }
     }
 
@@ -177,6 +181,7 @@ impl Comparison {
             instance: vec![0; cells],
         };
         let (end, _, found) = self.compare(&whole, false);
+        self.exists += u64::from(file.syntax.has_exists());
         let (mut start, mut sum) = (0, 0u128);
         loop {
             let count = match self.rng.below(20) {
@@ -222,6 +227,8 @@ impl Comparison {
     /// Shows what was met: each answer and each of these refusals some hundred times.
     fn finish(&self, refusals: RangeInclusive<u8>) {
         println!("{} looks, {} also plain", self.looks, self.plain);
+        println!("{} looks at files with exists", self.exists);
+        assert!(self.exists >= 1_000);
         let answers = ["case", "no case", "spent"].map(str::to_owned);
         let refusals = refusals.map(|number| format!("refusal {number}"));
         for name in answers.into_iter().chain(refusals) {
@@ -249,10 +256,11 @@ fn random_looks() {
     for seed in 0..40_000 {
         comparison.text(&gen::damage(&write(&gen::file(seed / 8)), seed));
     }
+    let mixed = |seed| write(&gen::mixed_file(seed));
+    let files: Vec<Vec<u8>> = (0..500).map(mixed).collect();
     for (_, kind) in KINDS {
-        for seed in 0..500 {
-            let text = write(&gen::mixed_file(seed));
-            comparison.text(&gen::damage_of_kind(&text, kind, seed));
+        for (seed, text) in (0..).zip(&files) {
+            comparison.text(&gen::damage_of_kind(text, kind, seed));
         }
     }
     comparison.finish(1..=13);
@@ -266,6 +274,23 @@ fn lists_of_looks() {
         comparison.list(&gen::mixed_file(seed));
     }
     comparison.finish(11..=12);
+}
+
+/// Files with exists, made by hand with their first cases.
+#[test]
+fn looks_with_exists() {
+    let mut comparison = Comparison::new(3);
+    for (text, told) in common::exists::files() {
+        let whole = Look {
+            text: text.as_bytes(),
+            start: 0,
+            count: u64::MAX,
+            work: vec![7; WORK],
+            instance: vec![-1; 16],
+        };
+        let (found, ..) = comparison.compare(&whole, true);
+        assert_eq!(found, answer(told), "{text}");
+    }
 }
 
 /// M1 and M2 of document 01, and the ends of its example's 13 candidates.

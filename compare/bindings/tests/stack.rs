@@ -29,8 +29,12 @@ fn check_and_look(text: &[u8]) -> (Result<(), Refusal>, Answer) {
 fn deepest_files() {
     let files = gen::deepest();
     let negations = "14".repeat(112) + "10";
-    let has_all = |text: &[u8]| String::from_utf8_lossy(text).contains(&negations);
-    assert!(files.iter().any(|(_, text)| has_all(text)));
+    // and all six items open
+    let exists = "1700".repeat(5) + &"14".repeat(102) + "10";
+    for deepest in [negations, exists] {
+        let has_all = |text: &[u8]| String::from_utf8_lossy(text).contains(&deepest);
+        assert!(files.iter().any(|(_, text)| has_all(text)), "{deepest}");
+    }
     for (name, text) in files {
         let (check, look) = check_and_look(&text);
         assert_eq!(check, Ok(()), "{name}");

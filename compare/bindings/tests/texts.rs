@@ -1,5 +1,6 @@
 //! The checker beside an independent one: the same texts, the same refusals.
-use reference::gen::{self, KINDS};
+use reference::gen::{self, Kind, Way, KINDS, WAYS};
+use std::collections::BTreeMap;
 
 #[path = "../../reference/tests/common/mod.rs"]
 mod common;
@@ -8,21 +9,56 @@ mod common;
 struct Tally {
     texts: u64,
     met: [u64; 16],
+    /// Accepted texts with exists.
+    exists: u64,
+    /// Texts that met a refusal to which a way to go wrong with exists leads.
+    ways: BTreeMap<Way, u64>,
 }
 
 impl Tally {
-    fn compare(&mut self, text: &[u8]) {
+    /// Gives the refusal, 0 for none.
+    fn compare(&mut self, text: &[u8]) -> u8 {
         let ours = match sakthveim::check(text) {
             Ok(()) => (0, 0),
             Err(r) => (r.number, r.line),
         };
         let theirs = match reference::read(text) {
-            Ok(_) => (0, 0),
+            Ok(file) => {
+                self.exists += u64::from(file.syntax.has_exists());
+                (0, 0)
+            }
             Err(r) => (r.number, r.line),
         };
         assert_eq!(ours, theirs, "{:?}", String::from_utf8_lossy(text));
         self.texts += 1;
         self.met[usize::from(ours.0)] += 1;
+        ours.0
+    }
+
+    /// Damage of one kind to each of the files.
+    fn compare_damage(&mut self, kind: Kind, files: &[Vec<u8>]) {
+        for (seed, text) in (0..).zip(files) {
+            let number = self.compare(&gen::damage_of_kind(text, kind, seed));
+            if let Kind::Exists(way) = kind {
+                let met = u64::from(way.refusals().contains(&number));
+                *self.ways.entry(way).or_insert(0) += met;
+            }
+        }
+    }
+
+    /// Shows what was met: every refusal, and every way to go wrong with exists.
+    fn finish(&self) {
+        println!("{} texts, {} accepted with exists", self.texts, self.exists);
+        assert!(self.texts >= 1_500_000 && self.exists >= 20_000);
+        for number in 0..=10 {
+            println!("refusal {number}: {}", self.met[number]);
+            assert!(self.met[number] >= 500, "refusal {number}");
+        }
+        for way in WAYS {
+            let met = self.ways.get(&way).copied().unwrap_or(0);
+            println!("{way:?}: {met} refused by {:?}", way.refusals());
+            assert!(met >= 500, "{way:?}");
+        }
     }
 }
 
@@ -44,19 +80,16 @@ fn random_and_damaged_texts() {
         for damaged in gen::every_limit(&text) {
             tally.compare(&damaged);
         }
-    }
-    for (_, kind) in KINDS {
-        for seed in 0..2_000 {
-            let text = reference::write(&gen::mixed_file(2_000_000 + seed));
-            tally.compare(&gen::damage_of_kind(&text, kind, seed));
+        for damaged in gen::every_exists_change(&text) {
+            tally.compare(&damaged);
         }
     }
-    println!("{} texts", tally.texts);
-    assert!(tally.texts >= 1_500_000);
-    for number in 0..=10 {
-        println!("refusal {number}: {}", tally.met[number]);
-        assert!(tally.met[number] >= 500, "refusal {number}");
+    let mixed = |seed| reference::write(&gen::mixed_file(seed));
+    let files: Vec<Vec<u8>> = (2_000_000..2_002_000).map(mixed).collect();
+    for (_, kind) in KINDS {
+        tally.compare_damage(kind, &files);
     }
+    tally.finish();
 }
 
 fn answer(text: &str) -> (u8, u16) {
@@ -131,6 +164,23 @@ fn texts_of_the_document() {
     let ends = |lo| text(&[&format!("01 01 01 00 {lo} 7fff"), sum, "07 01 00"]);
     assert_eq!(answer(&ends("8001")), (0, 0));
     assert_eq!(answer(&ends("8000")), (9, 2));
+}
+
+/// Texts with exists, made by hand with their refusals.
+#[test]
+fn texts_with_exists() {
+    use common::exists::{files, views, with_view};
+    for (view, number) in views() {
+        let line = if number == 0 { 0 } else { 3 };
+        assert_eq!(answer(&with_view(view)), (number, line), "{view}");
+    }
+    for (text, told) in files() {
+        let expected = match told {
+            reference::Answer::Refused { number, line } => (number, line),
+            _ => (0, 0),
+        };
+        assert_eq!(answer(&text), expected, "{text}");
+    }
 }
 
 /// A text over 8,192 bytes is refused before it is read.

@@ -51,7 +51,7 @@ fn main() -> io::Result<()> {
 }
 
 /// Plain files, files with cases after others, and files with many candidates; in each of these,
-/// goals of every kind and sign in turn.
+/// goals of every kind and sign in turn, and exists in a third.
 fn random_file(seed: u64) -> File {
     let mut rng = Rng::new(seed);
     loop {
@@ -61,10 +61,16 @@ fn random_file(seed: u64) -> File {
             1 => gen::mixed_file(drawn),
             _ => gen::file_of_size(drawn, Size::LARGE),
         };
-        if goal_kind(&file.syntax) == Some(seed / 3 % 8) {
+        let exists = seed / 24 % 3 == 1;
+        if goal_kind(&file.syntax) == Some(seed / 3 % 8) && has_exists(&file.syntax) == exists {
             return file;
         }
     }
+}
+
+fn has_exists(syntax: &Syntax) -> bool {
+    let mut conditions = syntax.views.iter().filter_map(View::condition);
+    conditions.any(|it| !it.looked_into().is_empty())
 }
 
 /// The goal view's kind and the sign, as a number below 8.

@@ -1,10 +1,10 @@
 //! The evaluation beside an independent one: the same rows in the same order, the same verdicts.
 
 use evaluation::{evaluate, position};
-use reference::candidates::candidate_database;
+use reference::candidates::{candidate_database, database};
 use reference::cases::{is_case, is_valid};
 use reference::eval::{relations, Database, Rows};
-use reference::gen::{self, Rng, Size};
+use reference::gen::{self, exists_marks, Rng, Size, EXISTS_MARKS};
 use reference::look::WORK;
 use reference::syntax::{Syntax, View};
 use reference::{File, Refusal};
@@ -14,7 +14,8 @@ use std::collections::BTreeMap;
 mod common;
 
 use common::{
-    accept, bags, equal_rows, having, no_members, no_rows, rounding, where_true, EXAMPLE, ROUNDED,
+    accept, bags, equal_rows, exists, having, no_members, no_rows, rounding, where_true, EXAMPLE,
+    ROUNDED,
 };
 
 fn random_counts(rng: &mut Rng, length: usize) -> Vec<u8> {
@@ -107,6 +108,9 @@ impl Tally {
         self.mark(!goal.negative, "positive goal");
         self.mark(goal.negative, "negative goal");
         self.mark(file.ranges.len() == 16, "16 relations");
+        for name in exists_marks(&file.syntax) {
+            self.mark(true, name);
+        }
         for view in views {
             self.mark(true, kind(view));
             if let View::Aggregate(grouped) = view {
@@ -138,6 +142,10 @@ impl Tally {
             let view = syntax.view(usize::from(syntax.goal.view)).map_or("", kind);
             let verdict = ["no case", "case"][usize::from(case)];
             self.mark(true, &format!("{sign} {view}, {verdict}"));
+            let marks = exists_marks(syntax);
+            for name in ["exists in the goal", "exists in the negated goal"] {
+                self.mark(marks.contains(name), &format!("{name}, {verdict}"));
+            }
         }
     }
 
@@ -162,6 +170,52 @@ fn kind(view: &View) -> &'static str {
     }
 }
 
+/// What random files and their databases have, beside [`EXISTS_MARKS`].
+const KINDS: [&str; 42] = [
+    "basic",
+    "aggregate",
+    "union",
+    "intersection",
+    "0 grouping columns",
+    "1 grouping columns",
+    "2 grouping columns",
+    "3 grouping columns",
+    "4 grouping columns",
+    "16 relations",
+    "64 rows",
+    "wide value",
+    "empty table",
+    "no cells",
+    "key",
+    "broken key",
+    "foreign key",
+    "self reference",
+    "kept foreign key",
+    "broken foreign key alone",
+    "positive goal",
+    "positive basic, case",
+    "positive basic, no case",
+    "positive aggregate, case",
+    "positive aggregate, no case",
+    "positive union, case",
+    "positive union, no case",
+    "positive intersection, case",
+    "positive intersection, no case",
+    "negative goal",
+    "negative basic, case",
+    "negative basic, no case",
+    "negative aggregate, case",
+    "negative aggregate, no case",
+    "negative union, case",
+    "negative union, no case",
+    "negative intersection, case",
+    "negative intersection, no case",
+    "exists in the goal, case",
+    "exists in the goal, no case",
+    "exists in the negated goal, case",
+    "exists in the negated goal, no case",
+];
+
 /// Plain files, files with cases after others, and files with many candidates.
 #[test]
 fn random_databases() {
@@ -176,46 +230,8 @@ fn random_databases() {
             tally.compare_file(&mut rng, &reference::write(&file), &file, 3);
         }
     }
-    tally.finish(&[
-        "basic",
-        "aggregate",
-        "union",
-        "intersection",
-        "0 grouping columns",
-        "1 grouping columns",
-        "2 grouping columns",
-        "3 grouping columns",
-        "4 grouping columns",
-        "16 relations",
-        "64 rows",
-        "wide value",
-        "empty table",
-        "no cells",
-        "key",
-        "broken key",
-        "foreign key",
-        "self reference",
-        "kept foreign key",
-        "broken foreign key alone",
-        "positive goal",
-        "positive basic, case",
-        "positive basic, no case",
-        "positive aggregate, case",
-        "positive aggregate, no case",
-        "positive union, case",
-        "positive union, no case",
-        "positive intersection, case",
-        "positive intersection, no case",
-        "negative goal",
-        "negative basic, case",
-        "negative basic, no case",
-        "negative aggregate, case",
-        "negative aggregate, no case",
-        "negative union, case",
-        "negative union, no case",
-        "negative intersection, case",
-        "negative intersection, no case",
-    ]);
+    let kinds: Vec<&str> = KINDS.into_iter().chain(EXISTS_MARKS).collect();
+    tally.finish(&kinds);
 }
 
 /// A refused text leaves buffers of any length as they are, and short buffers are refused first; an
@@ -291,6 +307,19 @@ fn all(text: &str) -> Vec<(u32, Vec<Rows>)> {
 
 fn answers(text: &str) -> Vec<u32> {
     all(text).into_iter().map(|(answer, _)| answer).collect()
+}
+
+/// Views with exists, made by hand with their rows.
+#[test]
+fn rows_with_exists() {
+    let mut rng = Rng::new(5);
+    for (view, cells, expected) in exists::ROWS {
+        let text = exists::with_view(view);
+        let file = accept(&text);
+        let database = database(&file.syntax, cells);
+        let (_, rows) = evaluated(&mut rng, text.as_bytes(), &file, &database);
+        assert_eq!(rows[2], *expected, "{view}, {cells:?}");
+    }
 }
 
 #[test]

@@ -232,10 +232,11 @@ fn used(syntax: &Syntax) -> BTreeSet<String> {
     let sign = if negative { "negative" } else { "positive" };
     note(&format!("{sign} {}", kind(syntax.view(goal))), true);
     note("three views stacked", depth(syntax, goal) >= 3);
+    note("exists", syntax.has_exists());
     used
 }
 
-const USED: [&str; 14] = [
+const USED: [&str; 15] = [
     "a primary key",
     "a foreign key to itself",
     "a foreign key of two pairs",
@@ -250,11 +251,21 @@ const USED: [&str; 14] = [
     "negative union",
     "negative intersection",
     "three views stacked",
+    "exists",
 ];
 
-/// The words of tokens 04 to 07 and of having.
-const WORDS: [&str; 8] = [
-    " * ", "ROUND(", "CASE", "COUNT(", "SUM(", "MIN(", "MAX(", "HAVING",
+/// The words of tokens 04 to 07, of having and of exists over a table and a view.
+const WORDS: [&str; 10] = [
+    " * ",
+    "ROUND(",
+    "CASE",
+    "COUNT(",
+    "SUM(",
+    "MIN(",
+    "MAX(",
+    "HAVING",
+    "EXISTS (FROM t",
+    "EXISTS (FROM v",
 ];
 
 #[test]

@@ -4,16 +4,18 @@ mod program;
 mod texts;
 
 use program::{GENERATE, STACK};
-use reference::{gen, report, write};
+use reference::{gen, report, write, Answer};
 use std::collections::BTreeMap;
 use std::time::Duration;
-use texts::common::{text, EXAMPLE};
+use texts::common::{self, text, EXAMPLE};
 use texts::shown;
 
-/// Texts compared, how many met each kind of answer, and how many were left out.
+/// Texts compared, how many of them are files with exists, how many met each kind of answer, and
+/// how many were left out.
 #[derive(Default)]
 struct Tally {
     texts: u64,
+    exists: u64,
     met: BTreeMap<String, u64>,
     left_out: u64,
 }
@@ -27,12 +29,15 @@ impl Tally {
         let found = GENERATE.answer(text);
         assert_eq!(shown(&found), shown(&report(text)), "{}", shown(text));
         self.texts += 1;
+        self.exists += u64::from(texts::has_exists(text));
         *self.met.entry(kind(&found)).or_insert(0) += 1;
     }
 
     /// Shows what was met: every kind of answer, some of them often.
     fn finish(&self) {
         println!("{} texts, {} left out", self.texts, self.left_out);
+        println!("{} files with exists", self.exists);
+        assert!(self.exists >= 500);
         let refusals = (1..=10).map(|number| format!("8f by {number}"));
         for kind in ["80".to_owned(), "82".to_owned()]
             .into_iter()
@@ -77,6 +82,22 @@ fn the_worked_example() {
     assert_eq!(said(EXAMPLE.as_bytes()), "8000000009\n8100010009\n");
     let negative = EXAMPLE.replace("070200", "070201");
     assert_eq!(said(negative.as_bytes()), "82\n");
+}
+
+/// Files with exists, made by hand with their first cases.
+#[test]
+fn files_with_exists() {
+    for (text, answer) in common::exists::files() {
+        let expected = match answer {
+            Answer::Case(k) => format!("80{k:08x}\n"),
+            Answer::NoCase => "82\n".to_owned(),
+            Answer::Refused { number, line } => format!("8f{number:02x}{line:04x}\n"),
+            Answer::Spent(next) => panic!("spent at {next}"),
+        };
+        let said = said(text.as_bytes());
+        assert!(said.starts_with(&expected), "{text}{said}");
+        assert_eq!(said.as_bytes(), report(text.as_bytes()), "{text}");
+    }
 }
 
 /// "It searches from 0 to the end": the last of 2^24 candidates is a case, or none is.

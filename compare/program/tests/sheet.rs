@@ -8,7 +8,7 @@ use program::{GENERATE, SHEET, STACK};
 use reference::sentence::{back, sheet, Language};
 use reference::{gen, text as lines, write, Refusal};
 use std::time::Duration;
-use texts::common::{text, EXAMPLE};
+use texts::common::{exists, text, EXAMPLE};
 use texts::shown;
 
 /// Number and line in an answer of the first program, if it is "8f, number, line in two bytes".
@@ -104,6 +104,16 @@ fn the_worked_example() {
     let empty = "The rule file is empty or longer than 8,192 bytes (refusal 1).\n\
         Le fichier de règles est vide ou dépasse 8\u{202f}192 octets (refus 1).\n";
     assert_eq!(said(b""), empty);
+}
+
+/// Views with exists, made by hand with their refusals.
+#[test]
+fn views_with_exists() {
+    for (view, number) in exists::views() {
+        let found = on_sheet(&SHEET.answer(exists::with_view(view).as_bytes()));
+        let expected = (number > 0).then_some(Refusal { number, line: 3 });
+        assert_eq!(found, expected, "{view}");
+    }
 }
 
 /// "The file has 1 to 8,192 bytes", and the largest line that a text has.

@@ -62,7 +62,7 @@ fn speed(done: u64, begin: Instant) -> Speed {
 }
 
 /// Texts of files without a case, so that a search walks all their candidates.
-pub const WALKS: [(&str, &str); 6] = [
+pub const WALKS: [(&str, &str); 7] = [
     (
         "one row, a view of a view, 2^24",
         "0101020000000fff00000fff\n\
@@ -106,5 +106,13 @@ pub const WALKS: [(&str, &str); 6] = [
         020100010000\n\
         040200010101110100000101000000120000050700000000010000\n\
         070200\n",
+    ),
+    (
+        "an exists in an exists, 2^20",
+        "010201000000001f\n\
+        010201000000001f\n\
+        0301010112000008010000010000\n\
+        03010001170115120100000101001702151201010001020012010200010000010000\n\
+        070300\n",
     ),
 ];

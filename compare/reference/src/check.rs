@@ -177,15 +177,13 @@ impl Reading {
         match view {
             View::Basic(basic) => {
                 let items = self.items(&basic.from);
-                let items = &items;
-                let setting = Setting { items, bound };
+                let setting = self.setting(&items, bound);
                 setting.cond(&basic.condition)?;
                 basic.select.iter().map(|expr| setting.expr(expr)).collect()
             }
             View::Aggregate(grouped) => {
                 let items = self.items(&grouped.from);
-                let items = &items;
-                let setting = Setting { items, bound };
+                let setting = self.setting(&items, bound);
                 setting.cond(&grouped.condition)?;
                 setting.cond(&grouped.having)?;
                 let select = grouped.select.iter();
@@ -203,6 +201,14 @@ impl Reading {
     fn items(&self, from: &[u8]) -> Vec<&[Range]> {
         let ranges = |relation: &u8| self.ranges[usize::from(*relation)].as_slice();
         from.iter().map(ranges).collect()
+    }
+
+    fn setting<'a>(&'a self, items: &'a [&'a [Range]], bound: u64) -> Setting<'a> {
+        Setting {
+            items,
+            relations: &self.ranges,
+            bound,
+        }
     }
 
     /// "then 3 for no goal, 10".
@@ -229,11 +235,12 @@ impl Reading {
 }
 
 /// "Token 07 may stand only in the having and select of an aggregate view, and not inside another
-/// 07. There, a column outside 07 must be a grouping column."
+/// 07. There, a column outside 07 must be a grouping column." Of token 17: "It may stand only within
+/// where conditions; elsewhere it breaks the rule on 07."
 fn rule_on_07(view: &View) -> bool {
     match view {
         View::Basic(basic) => {
-            Level::Member.cond(&basic.condition)
+            Level::Where.cond(&basic.condition)
                 && basic.select.iter().all(|expr| Level::Member.expr(expr))
         }
         View::Aggregate(Grouped {
@@ -244,7 +251,7 @@ fn rule_on_07(view: &View) -> bool {
             ..
         }) => {
             let group = Level::Group(grouping);
-            Level::Member.cond(condition)
+            Level::Where.cond(condition)
                 && group.cond(having)
                 && select.iter().all(|expr| group.expr(expr))
         }
@@ -255,10 +262,12 @@ fn rule_on_07(view: &View) -> bool {
 /// Where an expression stands for the rule on 07.
 #[derive(Clone, Copy)]
 enum Level<'a> {
-    /// Worked out for one combination: any column, no 07. So it is in a basic view, in where, and
-    /// below a 07.
+    /// Worked out for one combination, within where: any column, no 07, and 17.
+    Where,
+    /// Worked out for one combination elsewhere: any column, neither 07 nor 17. So it is in the
+    /// select of a basic view, and below a 07.
     Member,
-    /// Worked out for a group: its grouping columns, and 07.
+    /// Worked out for a group: its grouping columns, and 07, and no 17.
     Group(&'a [Place]),
 }
 
@@ -268,7 +277,7 @@ impl Level<'_> {
             Expr::Constant(_) => true,
             // A grouping column is the pair (from item, column).
             Expr::Column(place) => match self {
-                Level::Member => true,
+                Level::Where | Level::Member => true,
                 Level::Group(grouping) => grouping.contains(place),
             },
             Expr::Sum(a, b) | Expr::Difference(a, b) | Expr::Product(a, b) => {
@@ -277,7 +286,7 @@ impl Level<'_> {
             Expr::Nearest(_, a) => self.expr(a),
             Expr::If(condition, a, b) => self.cond(condition) && self.expr(a) && self.expr(b),
             Expr::Aggregate(_, a) => match self {
-                Level::Member => false,
+                Level::Where | Level::Member => false,
                 Level::Group(_) => Level::Member.expr(a),
             },
         }
@@ -291,6 +300,7 @@ impl Level<'_> {
             }
             Cond::Not(a) => self.cond(a),
             Cond::And(a, b) | Cond::Or(a, b) => self.cond(a) && self.cond(b),
+            Cond::Exists(_, a) => matches!(self, Level::Where) && self.cond(a),
         }
     }
 }

@@ -1,7 +1,7 @@
 //! The bytes of one frame, "left to right for 4, 5, 6, a surplus byte last".
 
 use crate::syntax::{
-    Aggregate, Basic, Column, Cond, Expr, ForeignKey, Goal, Grouped, Place, Table, View,
+    Aggregate, Basic, Column, Cond, Expr, ForeignKey, Goal, Grouped, Place, Table, View, OPEN_ITEMS,
 };
 
 /// The number of a refusal; the line is added by the caller.
@@ -239,7 +239,21 @@ impl<'a> Reader<'a> {
             0x14 => Cond::Not(Box::new(self.cond(from)?)),
             0x15 => Cond::And(Box::new(self.cond(from)?), Box::new(self.cond(from)?)),
             0x16 => Cond::Or(Box::new(self.cond(from)?), Box::new(self.cond(from)?)),
+            0x17 => self.exists(from)?,
             _ => return Err(4),
         })
+    }
+
+    /// "token 17, a relation numbered below the view, a condition", wherever it stands: its position
+    /// is a whole-frame rule.
+    fn exists(&mut self, from: &[u8]) -> Result<Cond, Number> {
+        // "5 for a seventh from item, at token 17 itself": before the relation is read.
+        if from.len() == OPEN_ITEMS {
+            return Err(5);
+        }
+        let relation = self.relation()?;
+        // "one more from item, numbered after those already open"; behind the condition it is closed.
+        let open = [from, &[relation]].concat();
+        Ok(Cond::Exists(relation, Box::new(self.cond(&open)?)))
     }
 }

@@ -3,11 +3,16 @@
 mod damage;
 mod deepest;
 mod draft;
+mod exists;
 mod express;
+mod marks;
 mod spoil;
+mod walk;
 
 pub use damage::{damage, damage_of_kind, every_byte_change, every_limit, Kind, KINDS};
 pub use deepest::{deepest, deepest_refused};
+pub use exists::{every_exists_change, Way, WAYS};
+pub use marks::{exists_marks, EXISTS_MARKS};
 
 use crate::check;
 use crate::look::WORK;

@@ -5,6 +5,7 @@
 use crate::syntax::{
     Aggregate, Basic, Cond, Expr, ForeignKey, Grouped, Place, Syntax, Table, View,
 };
+use std::ops::Range;
 
 /// One field of a frame.
 #[derive(Clone, Copy, Debug, PartialEq, Eq)]
@@ -30,6 +31,17 @@ impl Field {
     }
 }
 
+/// Where an exists stands in its frame: its token, its relation, and its condition.
+#[derive(Clone, Debug, PartialEq, Eq)]
+pub struct Form {
+    /// The place of the frame, from 0.
+    pub frame: usize,
+    /// The from item that it opens.
+    pub item: usize,
+    /// Its bytes in the frame.
+    pub bytes: Range<usize>,
+}
+
 /// The bytes of all frames of a syntax.
 pub fn frames(syntax: &Syntax) -> Vec<Vec<u8>> {
     fields(syntax).iter().map(|frame| bytes(frame)).collect()
@@ -42,8 +54,18 @@ pub fn bytes(frame: &[Field]) -> Vec<u8> {
 
 /// The fields of all frames of a syntax, "Order: tables, foreign keys, views, one goal".
 pub fn fields(syntax: &Syntax) -> Vec<Vec<Field>> {
+    laid_out(syntax).0
+}
+
+/// Every exists of a syntax, an outer one behind those in it.
+pub fn exists_forms(syntax: &Syntax) -> Vec<Form> {
+    laid_out(syntax).1
+}
+
+fn laid_out(syntax: &Syntax) -> (Vec<Vec<Field>>, Vec<Form>) {
     let mut columns: Vec<usize> = Vec::new();
     let mut frames = Vec::new();
+    let mut forms = Vec::new();
     for table in &syntax.tables {
         frames.push(table_fields(table));
         columns.push(table.columns.len());
@@ -54,6 +76,11 @@ pub fn fields(syntax: &Syntax) -> Vec<Vec<Field>> {
     for view in &syntax.views {
         let mut frame = Frame::new(&columns, syntax.tables.len());
         frame.view(view);
+        forms.extend(frame.exists.into_iter().map(|(item, bytes)| Form {
+            frame: frames.len(),
+            item,
+            bytes,
+        }));
         frames.push(frame.fields);
         columns.push(match view {
             View::Basic(basic) => basic.select.len(),
@@ -68,7 +95,7 @@ pub fn fields(syntax: &Syntax) -> Vec<Vec<Field>> {
     frame.view_number(syntax.goal.view);
     frame.byte(i32::from(syntax.goal.negative), 0, 1);
     frames.push(frame.fields);
-    frames
+    (frames, forms)
 }
 
 fn table_fields(table: &Table) -> Vec<Field> {
@@ -106,7 +133,10 @@ struct Frame<'a> {
     columns: &'a [usize],
     /// The first relation that is a view.
     first_view: usize,
-    from: &'a [u8],
+    /// The relations of the from items that are open.
+    open: Vec<u8>,
+    /// The item that each exists opens, and its bytes.
+    exists: Vec<(usize, Range<usize>)>,
 }
 
 impl<'a> Frame<'a> {
@@ -115,7 +145,8 @@ impl<'a> Frame<'a> {
             fields: Vec::new(),
             columns,
             first_view,
-            from: &[],
+            open: Vec::new(),
+            exists: Vec::new(),
         }
     }
 
@@ -152,12 +183,12 @@ impl<'a> Frame<'a> {
     }
 
     fn place(&mut self, place: Place) {
-        let relation = self.from.get(usize::from(place.item)).copied();
-        self.byte(i32::from(place.item), 0, self.from.len() as i32 - 1);
+        let relation = self.open.get(usize::from(place.item)).copied();
+        self.byte(i32::from(place.item), 0, self.open.len() as i32 - 1);
         self.column(relation.unwrap_or(u8::MAX), place.column);
     }
 
-    fn view(&mut self, view: &'a View) {
+    fn view(&mut self, view: &View) {
         match view {
             View::Basic(basic) => self.basic(basic),
             View::Aggregate(grouped) => self.grouped(grouped),
@@ -173,15 +204,15 @@ impl<'a> Frame<'a> {
     }
 
     /// "from count (1 to 3), that many earlier relations".
-    fn from(&mut self, from: &'a [u8]) {
+    fn from(&mut self, from: &[u8]) {
         self.byte(from.len() as i32, 1, 3);
         for &relation in from {
             self.relation(relation);
         }
-        self.from = from;
+        self.open = from.to_vec();
     }
 
-    fn basic(&mut self, basic: &'a Basic) {
+    fn basic(&mut self, basic: &Basic) {
         self.byte(3, 1, 7);
         self.from(&basic.from);
         self.byte(basic.select.len() as i32, 1, 8);
@@ -189,7 +220,7 @@ impl<'a> Frame<'a> {
         basic.select.iter().for_each(|expr| self.expr(expr));
     }
 
-    fn grouped(&mut self, grouped: &'a Grouped) {
+    fn grouped(&mut self, grouped: &Grouped) {
         self.byte(4, 1, 7);
         self.from(&grouped.from);
         self.byte(grouped.grouping.len() as i32, 0, 4);
@@ -253,8 +284,9 @@ impl<'a> Frame<'a> {
             Cond::Not(..) => 0x14,
             Cond::And(..) => 0x15,
             Cond::Or(..) => 0x16,
+            Cond::Exists(..) => 0x17,
         };
-        self.byte(token, 0x10, 0x16);
+        self.byte(token, 0x10, 0x17);
         match condition {
             Cond::True => {}
             Cond::Equal(a, b) | Cond::Less(a, b) | Cond::LessOrEqual(a, b) => {
@@ -266,6 +298,18 @@ impl<'a> Frame<'a> {
                 self.cond(a);
                 self.cond(b);
             }
+            Cond::Exists(relation, a) => self.exists(*relation, a),
         }
+    }
+
+    /// What follows token 17. The item is open within its condition alone.
+    fn exists(&mut self, relation: u8, condition: &Cond) {
+        let (item, begin) = (self.open.len(), bytes(&self.fields).len() - 1);
+        self.relation(relation);
+        self.open.push(relation);
+        self.cond(condition);
+        self.open.pop();
+        let end = bytes(&self.fields).len();
+        self.exists.push((item, begin..end));
     }
 }

@@ -1,7 +1,7 @@
 //! A plain reference for the rule file: reading and refusing it, the meaning of its views, its
 //! cases, its candidates, a look at them, the program's output, and refusals as sentences.
 //!
-//! Every module is written from the document of exact rules; a comment that settles a choice
+//! Every module is written from the documents of exact rules; a comment that settles a choice
 //! quotes the sentence it rests on. Everything here is plain, except [`search`], which is the same
 //! walk written for speed.
 

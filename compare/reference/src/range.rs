@@ -93,8 +93,10 @@ impl Range {
 /// What the range of an expression depends on.
 #[derive(Clone, Copy)]
 pub struct Setting<'a> {
-    /// The column ranges of each from item.
+    /// The column ranges of each from item that is open.
     pub items: &'a [&'a [Range]],
+    /// The column ranges of every relation before the view.
+    pub relations: &'a [Vec<Range>],
     /// R, the row bound of the view.
     pub bound: u64,
 }
@@ -140,6 +142,18 @@ impl Setting<'_> {
                 self.cond(a)?;
                 self.cond(b)
             }
+            // The row bound stays: "Row bounds do not count it".
+            Cond::Exists(relation, a) => {
+                let items = self.opened(*relation);
+                let items = &items;
+                Setting { items, ..*self }.cond(a)
+            }
         }
+    }
+
+    /// The items inside an exists: "that relation's row is one more from item".
+    pub fn opened(&self, relation: u8) -> Vec<&[Range]> {
+        let ranges = self.relations[usize::from(relation)].as_slice();
+        [self.items, &[ranges]].concat()
     }
 }

@@ -10,13 +10,13 @@ mod values;
 mod views;
 
 use crate::candidates;
-use crate::syntax::{Syntax, RELATIONS};
+use crate::syntax::{Syntax, OPEN_ITEMS, RELATIONS};
 
 /// "Each relation's rows go into its own stretch of the work area": 64 rows of 8 columns.
 pub const STRETCH: usize = 64 * 8;
 
-/// Where the row of each from item begins.
-type At = [usize; 3];
+/// Where the row of each from item that is open begins.
+type At = [usize; OPEN_ITEMS];
 
 /// A file prepared for searching.
 pub struct Search {
@@ -55,7 +55,7 @@ struct Reference {
 /// Memory used again for each candidate.
 struct Scratch {
     /// The number of rows of each relation.
-    rows: [usize; RELATIONS],
+    counts: [usize; RELATIONS],
     kept: Vec<At>,
     members: Vec<At>,
 }
@@ -93,7 +93,7 @@ impl Search {
             work[cell.at] = i32::from(value);
         }
         let mut scratch = Scratch {
-            rows: self.table_rows,
+            counts: self.table_rows,
             kept: Vec::with_capacity(64),
             members: Vec::with_capacity(64),
         };

@@ -6,6 +6,8 @@ use crate::range::Range;
 pub const RELATIONS: usize = 16;
 /// "Foreign keys: at most 16."
 pub const FOREIGN_KEYS: usize = 16;
+/// "at most six in all": the from items of a view and those that exists opens.
+pub const OPEN_ITEMS: usize = 6;
 /// "Each is at most 64."
 pub const ROW_BOUND: u64 = 64;
 /// "at most 2^24."
@@ -70,7 +72,7 @@ pub struct ForeignKey {
 /// A column seen through a from item.
 #[derive(Clone, Copy, Debug, PartialEq, Eq)]
 pub struct Place {
-    /// The place in the from list, from 0.
+    /// The place in the from list, from 0. What exists opens is numbered on.
     pub item: u8,
     /// The column of that relation, from 0.
     pub column: u8,
@@ -120,7 +122,7 @@ pub enum Expr {
     Aggregate(Aggregate, Box<Expr>),
 }
 
-/// Conditions, tokens 10 to 16.
+/// Conditions, tokens 10 to 17.
 #[derive(Clone, Debug, PartialEq, Eq)]
 pub enum Cond {
     /// 10
@@ -137,9 +139,61 @@ pub enum Cond {
     And(Box<Cond>, Box<Cond>),
     /// 16
     Or(Box<Cond>, Box<Cond>),
+    /// 17, the relation, and the condition that "some row satisfies".
+    Exists(u8, Box<Cond>),
+}
+
+/// What a condition or an expression holds directly.
+pub struct Parts<'a> {
+    /// Its conditions.
+    pub conds: Vec<&'a Cond>,
+    /// Its expressions.
+    pub exprs: Vec<&'a Expr>,
+}
+
+impl Parts<'_> {
+    /// The relations that exists names in them, at any depth.
+    fn looked_into(&self) -> Vec<u8> {
+        let conds = self.conds.iter().flat_map(|it| it.looked_into());
+        let exprs = self.exprs.iter().flat_map(|it| it.parts().looked_into());
+        conds.chain(exprs).collect()
+    }
+}
+
+impl Expr {
+    /// What it holds.
+    pub fn parts(&self) -> Parts<'_> {
+        let (conds, exprs): (Vec<&Cond>, Vec<&Expr>) = match self {
+            Expr::Constant(_) | Expr::Column(_) => (vec![], vec![]),
+            Expr::Sum(a, b) | Expr::Difference(a, b) | Expr::Product(a, b) => (vec![], vec![a, b]),
+            Expr::Nearest(_, a) | Expr::Aggregate(_, a) => (vec![], vec![a]),
+            Expr::If(condition, a, b) => (vec![condition], vec![a, b]),
+        };
+        Parts { conds, exprs }
+    }
 }
 
 impl Cond {
+    /// What it holds.
+    pub fn parts(&self) -> Parts<'_> {
+        let (conds, exprs): (Vec<&Cond>, Vec<&Expr>) = match self {
+            Cond::True => (vec![], vec![]),
+            Cond::Equal(a, b) | Cond::Less(a, b) | Cond::LessOrEqual(a, b) => (vec![], vec![a, b]),
+            Cond::Not(a) | Cond::Exists(_, a) => (vec![a], vec![]),
+            Cond::And(a, b) | Cond::Or(a, b) => (vec![a, b], vec![]),
+        };
+        Parts { conds, exprs }
+    }
+
+    /// The relations that exists names in it, at any depth.
+    pub fn looked_into(&self) -> Vec<u8> {
+        let mut found = self.parts().looked_into();
+        if let Cond::Exists(relation, _) = self {
+            found.push(*relation);
+        }
+        found
+    }
+
     /// The condition under a `not`.
     pub fn negated(&self) -> Cond {
         Cond::Not(Box::new(self.clone()))
@@ -185,6 +239,33 @@ pub enum View {
     Intersection(u8, u8),
 }
 
+impl View {
+    /// The where condition, if it has one.
+    pub fn condition(&self) -> Option<&Cond> {
+        match self {
+            View::Basic(basic) => Some(&basic.condition),
+            View::Aggregate(grouped) => Some(&grouped.condition),
+            View::Union(..) | View::Intersection(..) => None,
+        }
+    }
+
+    /// The relations of the from list, or both operands.
+    pub fn from(&self) -> Vec<u8> {
+        match self {
+            View::Basic(basic) => basic.from.clone(),
+            View::Aggregate(grouped) => grouped.from.clone(),
+            View::Union(left, right) | View::Intersection(left, right) => vec![*left, *right],
+        }
+    }
+
+    /// The relations whose rows it reads: those, and the ones that exists names in where.
+    pub fn reads(&self) -> Vec<u8> {
+        let mut relations = self.from();
+        relations.extend(self.condition().iter().flat_map(|it| it.looked_into()));
+        relations
+    }
+}
+
 /// Frame 07.
 #[derive(Clone, Copy, Debug, PartialEq, Eq)]
 pub struct Goal {
@@ -211,6 +292,12 @@ impl Syntax {
     /// The view with this relation number, if it is one.
     pub fn view(&self, relation: usize) -> Option<&View> {
         self.views.get(relation.checked_sub(self.tables.len())?)
+    }
+
+    /// Whether some where condition has an exists.
+    pub fn has_exists(&self) -> bool {
+        let mut conditions = self.views.iter().filter_map(View::condition);
+        conditions.any(|condition| !condition.looked_into().is_empty())
     }
 
     /// The number of cells: one for each table, row and column.

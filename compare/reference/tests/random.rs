@@ -4,10 +4,10 @@ mod common;
 
 use reference::candidates::{candidate, candidate_database, cells};
 use reference::eval::relations;
-use reference::gen::{self, Rng};
+use reference::gen::{self, exists_marks, Rng, EXISTS_MARKS};
 use reference::look::{is_case, WORK};
 use reference::search::Search;
-use reference::syntax::{Cond, Expr, View};
+use reference::syntax::{Cond, Expr, Parts, View};
 use reference::{plain_look, read, report, text, write, Answer, File};
 
 const FILES: u64 = 20_000;
@@ -93,9 +93,10 @@ fn rows_keep_their_bounds() {
 #[test]
 fn the_fast_search_finds_exactly_the_cases() {
     let mut work = vec![7; WORK];
-    let (mut with, mut without) = (0, 0);
+    let (mut with, mut without, mut exists) = (0, 0, 0);
     for seed in 0..4_000 {
         let file = gen::file(seed);
+        exists += u64::from(file.syntax.has_exists());
         let search = Search::new(&file);
         let cases: Vec<u64> = (0..file.candidates)
             .filter(|&k| is_case(&file, k))
@@ -112,7 +113,8 @@ fn the_fast_search_finds_exactly_the_cases() {
             with += 1;
         }
     }
-    assert!(with > 500 && without > 500, "{with} {without}");
+    println!("{with} files with a case, {without} without, {exists} with exists");
+    assert!(with > 500 && without > 500 && exists > 1_000);
 }
 
 #[test]
@@ -169,67 +171,74 @@ fn reports_agree_with_plain_looks() {
     }
 }
 
+/// What random files have, beside [`EXISTS_MARKS`].
+const WANTED: [&str; 45] = [
+    "1 table",
+    "2 tables",
+    "3 tables",
+    "4 tables",
+    "key",
+    "no key",
+    "foreign key",
+    "self reference",
+    "16 relations",
+    "basic",
+    "aggregate",
+    "union",
+    "intersection",
+    "negative basic",
+    "negative aggregate",
+    "negative union",
+    "negative intersection",
+    "positive basic",
+    "positive aggregate",
+    "positive union",
+    "positive intersection",
+    "view of a view",
+    "frame of 110 bytes or more",
+    "no grouping",
+    "4 grouping columns",
+    "8 columns",
+    "3 from items",
+    "row bound 64",
+    "no cells",
+    "00",
+    "01",
+    "02",
+    "03",
+    "04",
+    "05",
+    "06",
+    "07",
+    "10",
+    "11",
+    "12",
+    "13",
+    "14",
+    "15",
+    "16",
+    "17",
+];
+
 /// The generator meets every kind of view, every token, and every shape the rules allow.
 #[test]
 fn random_files_are_of_every_kind() {
     let mut seen = std::collections::BTreeMap::new();
     for seed in 0..5_000 {
-        for mark in marks(&gen::file(seed)) {
+        let file = gen::file(seed);
+        let exists = exists_marks(&file.syntax).into_iter().map(str::to_owned);
+        for mark in marks(&file).into_iter().chain(exists) {
             *seen.entry(mark).or_insert(0) += 1;
         }
     }
     for (mark, count) in &seen {
         println!("{count:6} {mark}");
     }
-    let wanted = [
-        "1 table",
-        "2 tables",
-        "3 tables",
-        "4 tables",
-        "key",
-        "no key",
-        "foreign key",
-        "self reference",
-        "16 relations",
-        "basic",
-        "aggregate",
-        "union",
-        "intersection",
-        "negative basic",
-        "negative aggregate",
-        "negative union",
-        "negative intersection",
-        "positive basic",
-        "positive aggregate",
-        "positive union",
-        "positive intersection",
-        "view of a view",
-        "frame of 110 bytes or more",
-        "no grouping",
-        "4 grouping columns",
-        "8 columns",
-        "3 from items",
-        "row bound 64",
-        "no cells",
-        "00",
-        "01",
-        "02",
-        "03",
-        "04",
-        "05",
-        "06",
-        "07",
-        "10",
-        "11",
-        "12",
-        "13",
-        "14",
-        "15",
-        "16",
-    ];
-    for mark in wanted {
+    for mark in WANTED.into_iter().chain(EXISTS_MARKS) {
         assert!(seen.get(mark).is_some_and(|&count| count >= 10), "{mark}");
     }
+    // At least a third of the files with a where condition have an exists.
+    assert!(3 * seen["exists"] >= seen["where"]);
 }
 
 fn marks(file: &File) -> Vec<String> {
@@ -291,6 +300,7 @@ fn marks(file: &File) -> Vec<String> {
             }
             _ => continue,
         };
+        mark(true, "where");
         mark(
             from.iter().any(|relation| usize::from(*relation) >= tables),
             "view of a view",
@@ -306,44 +316,36 @@ fn marks(file: &File) -> Vec<String> {
 }
 
 fn expr_tokens(expr: &Expr, mark: &mut impl FnMut(bool, &str)) {
-    let (token, parts): (&str, Vec<&Expr>) = match expr {
-        Expr::Constant(_) => ("00", vec![]),
-        Expr::Column(_) => ("01", vec![]),
-        Expr::Sum(a, b) => ("02", vec![a, b]),
-        Expr::Difference(a, b) => ("03", vec![a, b]),
-        Expr::Product(a, b) => ("04", vec![a, b]),
-        Expr::Nearest(_, a) => ("05", vec![a]),
-        Expr::If(condition, a, b) => {
-            cond_tokens(condition, mark);
-            ("06", vec![a, b])
-        }
-        Expr::Aggregate(_, a) => ("07", vec![a]),
+    let token = match expr {
+        Expr::Constant(_) => "00",
+        Expr::Column(_) => "01",
+        Expr::Sum(..) => "02",
+        Expr::Difference(..) => "03",
+        Expr::Product(..) => "04",
+        Expr::Nearest(..) => "05",
+        Expr::If(..) => "06",
+        Expr::Aggregate(..) => "07",
     };
     mark(true, token);
-    parts.iter().for_each(|part| expr_tokens(part, mark));
+    tokens(expr.parts(), mark);
 }
 
 fn cond_tokens(condition: &Cond, mark: &mut impl FnMut(bool, &str)) {
-    let (token, parts): (&str, Vec<&Expr>) = match condition {
-        Cond::True => ("10", vec![]),
-        Cond::Equal(a, b) => ("11", vec![a, b]),
-        Cond::Less(a, b) => ("12", vec![a, b]),
-        Cond::LessOrEqual(a, b) => ("13", vec![a, b]),
-        Cond::Not(a) => {
-            cond_tokens(a, mark);
-            ("14", vec![])
-        }
-        Cond::And(a, b) => {
-            cond_tokens(a, mark);
-            cond_tokens(b, mark);
-            ("15", vec![])
-        }
-        Cond::Or(a, b) => {
-            cond_tokens(a, mark);
-            cond_tokens(b, mark);
-            ("16", vec![])
-        }
+    let token = match condition {
+        Cond::True => "10",
+        Cond::Equal(..) => "11",
+        Cond::Less(..) => "12",
+        Cond::LessOrEqual(..) => "13",
+        Cond::Not(..) => "14",
+        Cond::And(..) => "15",
+        Cond::Or(..) => "16",
+        Cond::Exists(..) => "17",
     };
     mark(true, token);
-    parts.iter().for_each(|part| expr_tokens(part, mark));
+    tokens(condition.parts(), mark);
+}
+
+fn tokens(parts: Parts, mark: &mut impl FnMut(bool, &str)) {
+    parts.conds.iter().for_each(|it| cond_tokens(it, mark));
+    parts.exprs.iter().for_each(|it| expr_tokens(it, mark));
 }

@@ -207,7 +207,7 @@ fn the_longest_sentence() {
     let mut longest = 0;
     each(|_, _, said| longest = longest.max(said.len()));
     println!("the longest sentence has {longest} bytes");
-    assert_eq!(longest, 377);
+    assert_eq!(longest, 409);
     assert!(longest <= ROOM);
 }
 

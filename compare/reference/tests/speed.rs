@@ -4,7 +4,9 @@
 mod common;
 
 use reference::bench::{self, Speed};
-use reference::gen::{self, every_byte_change, every_limit, Size};
+use reference::gen::{
+    self, every_byte_change, every_exists_change, every_limit, Kind, Size, Way, WAYS,
+};
 use reference::{read, write, File};
 
 const TEXTS: u64 = 200_000;
@@ -50,6 +52,43 @@ fn every_kind_of_damage_alone() {
         );
         assert!(counts[1..].iter().any(|&count| count > 0), "{kind:?}");
     }
+}
+
+/// Each way to go wrong with exists meets its refusals, and where it has one, no other.
+#[test]
+fn every_way_to_go_wrong_with_exists() {
+    const FILES: u64 = 2_000;
+    for way in WAYS {
+        let kind = Kind::Exists(way);
+        let text = |seed| gen::damage_of_kind(&write(&gen::file(seed)), kind, seed);
+        let counts = met((0..FILES).map(text));
+        println!(
+            "{way:?}: accepted {}, refused by number {:?}",
+            counts[0],
+            &counts[1..]
+        );
+        let refused: u64 = counts[1..].iter().sum();
+        for &number in way.refusals() {
+            let count = counts[usize::from(number)];
+            assert!(count >= 10, "{way:?}: {counts:?}");
+            assert!(way.refusals().len() > 1 || count == refused, "{counts:?}");
+        }
+        let kept = [Way::Token, Way::Relation, Way::Inside, Way::Range].contains(&way);
+        assert_eq!(counts[0] > 0, kept, "{way:?}: {counts:?}");
+    }
+}
+
+/// Every byte of an exists changed to every other, and its frame cut behind that byte.
+#[test]
+fn all_changes_of_exists() {
+    let texts = (0..40).map(|seed| write(&gen::file(seed)));
+    let counts = met(texts.flat_map(|text| every_exists_change(&text)));
+    println!(
+        "bytes of exists: accepted {}, refused by number {:?}",
+        counts[0],
+        &counts[1..]
+    );
+    assert!([0, 4, 5, 6].iter().all(|&number| counts[number] >= 100));
 }
 
 #[test]

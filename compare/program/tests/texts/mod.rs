@@ -45,6 +45,11 @@ pub fn is_long(text: &[u8]) -> bool {
     read(text).is_ok_and(|file| file.candidates > MOST)
 }
 
+/// Whether the text is an accepted file with exists.
+pub fn has_exists(text: &[u8]) -> bool {
+    read(text).is_ok_and(|file| file.syntax.has_exists())
+}
+
 /// A text of random bytes, most of them short.
 fn random_bytes(rng: &mut Rng) -> Vec<u8> {
     let length = match rng.below(10) {

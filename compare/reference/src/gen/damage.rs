@@ -1,6 +1,7 @@
 //! Damaged texts. Not every damage leads to a refusal: some land on a limit and some on another
 //! accepted file.
 
+use super::exists::{wrong, Way};
 use super::spoil::spoil;
 use super::Rng;
 use crate::check;
@@ -53,10 +54,12 @@ pub enum Kind {
     Random,
     /// A rule on whole frames or on the file is broken or just kept.
     Spoil,
+    /// An exists goes wrong.
+    Exists(Way),
 }
 
 /// All kinds, each with its weight in [`damage`].
-pub const KINDS: [(usize, Kind); 21] = [
+pub const KINDS: [(usize, Kind); 35] = [
     (6, Kind::TextByte),
     (10, Kind::FrameByte),
     (3, Kind::CutText),
@@ -77,7 +80,21 @@ pub const KINDS: [(usize, Kind); 21] = [
     (3, Kind::LongLine),
     (2, Kind::LongText),
     (2, Kind::Random),
-    (24, Kind::Spoil),
+    (28, Kind::Spoil),
+    (1, Kind::Exists(Way::Token)),
+    (1, Kind::Exists(Way::Relation)),
+    (1, Kind::Exists(Way::Inside)),
+    (1, Kind::Exists(Way::Cut)),
+    (1, Kind::Exists(Way::Seventh)),
+    (1, Kind::Exists(Way::SeventhCut)),
+    (1, Kind::Exists(Way::SeventhLater)),
+    (1, Kind::Exists(Way::Later)),
+    (1, Kind::Exists(Way::Closed)),
+    (1, Kind::Exists(Way::Having)),
+    (1, Kind::Exists(Way::Select)),
+    (1, Kind::Exists(Way::Argument)),
+    (1, Kind::Exists(Way::Aggregate)),
+    (1, Kind::Exists(Way::Range)),
 ];
 
 /// A text damaged once, or at times twice or thrice, so that refusals compete for being first.
@@ -141,6 +158,7 @@ fn apply(rng: &mut Rng, text: &[u8], kind: Kind) -> Vec<u8> {
         Kind::CutText => return text[..rng.below(text.len() + 1)].to_vec(),
         Kind::Limit => return limit(rng, text),
         Kind::Spoil => return spoiled(rng, text),
+        Kind::Exists(way) => return wrong_exists(rng, text, way),
         Kind::LongText => return long_text(rng, text),
         Kind::Random => return random(rng),
         Kind::NoLastLf => return text.strip_suffix(b"\n").unwrap_or(text).to_vec(),
@@ -228,7 +246,8 @@ fn change_frame(line: &mut Vec<u8>, change: impl FnOnce(&mut Vec<u8>)) {
     }
 }
 
-fn any_byte(rng: &mut Rng) -> u8 {
+/// A byte, most often one that is a token.
+pub fn any_byte(rng: &mut Rng) -> u8 {
     if rng.percent(70) {
         rng.below(0x18) as u8
     } else {
@@ -272,6 +291,14 @@ fn limit(rng: &mut Rng, text: &[u8]) -> Vec<u8> {
 fn spoiled(rng: &mut Rng, text: &[u8]) -> Vec<u8> {
     match check::read(text) {
         Ok(file) => text::write_syntax(&spoil(rng, &file.syntax)),
+        Err(_) => text_byte(rng, text),
+    }
+}
+
+/// The same by an exists.
+fn wrong_exists(rng: &mut Rng, text: &[u8], way: Way) -> Vec<u8> {
+    match check::read(text) {
+        Ok(file) => wrong(rng, &file.syntax, way),
         Err(_) => text_byte(rng, text),
     }
 }

@@ -23,10 +23,11 @@ const fn around(name: &'static str, before: &'static str, behind: &'static str) 
 }
 
 /// Conditions that hold a condition, and expressions that hold an expression.
-const CONDITIONS: [Around; 3] = [
+const CONDITIONS: [Around; 4] = [
     around("not", "14", ""),
     around("and, on the left", "15", "10"),
-    around("or, on the right", "1610", ""),
+    around("and, on the right", "1510", ""),
+    around("or, on the right of what holds", "1610", ""),
 ];
 const EXPRESSIONS: [Around; 6] = [
     around("sum, on the left", "02", "010000"),
@@ -37,15 +38,39 @@ const EXPRESSIONS: [Around; 6] = [
     around("condition of a branch", "0612", "000000000000000000"),
 ];
 
-/// Where conditions stand, and expressions.
-const OF_CONDITIONS: [Around; 4] = [
+/// Where conditions stand, and expressions. Five exists open all six items behind a from list of
+/// one.
+const OF_CONDITIONS: [Around; 7] = [
     around("where", "03010001", "010000"),
     around("where of groups", "0401000001", "10000000"),
+    around("exists in where", "0301000117001700170017001700", "010000"),
+    around(
+        "exists in where of groups",
+        "040100000117001700170017001700",
+        "10000000",
+    ),
+    around(
+        "exists in branches in where",
+        concat!("03010001", "12061700", "12061700", "12061700", "12061700", "12061700"),
+        concat!(
+            "000000000000000000",
+            "000000000000000000",
+            "000000000000000000",
+            "000000000000000000",
+            "000000000000000000",
+            "010000"
+        ),
+    ),
     around("having", "040100000110", "000000"),
     around("branch in select", "030100011006", "010000000000"),
 ];
-const OF_EXPRESSIONS: [Around; 4] = [
+const OF_EXPRESSIONS: [Around; 5] = [
     around("comparison in where", "0301000112", "000000010000"),
+    around(
+        "comparison in exists",
+        "030100011700170017001700170012",
+        "010500010000",
+    ),
     around("select", "0301000110", ""),
     around("aggregate in having", "040100000110120701", "000000000000"),
     around("aggregate in select", "040100000110100701", ""),
@@ -82,12 +107,17 @@ pub fn deepest() -> Vec<(String, Vec<u8>)> {
 /// Texts that are refused by 4 at line 2: forms opened to the end of the line, and none closed.
 pub fn deepest_refused() -> Vec<(String, Vec<u8>)> {
     let conditions = ["14", "15", "16"].map(|form| ("", form));
+    let exists = [
+        ("17001700170017001700", "14"),
+        ("17001700170017001700", "15"),
+        ("1700170017001700170012", "0612"),
+    ];
     let expressions = ["02", "0610", "0612"].map(|form| ("12", form));
     let named = |(first, form): (&str, &str)| {
         let view = format!("03010001{first}{}", form.repeat(LINE));
         let text = format!("{TABLE}\n{}\n070100\n", &view[..2 * LINE]);
         (format!("{first}{form}, opened"), text.into_bytes())
     };
-    let forms = conditions.into_iter().chain(expressions);
+    let forms = conditions.into_iter().chain(exists).chain(expressions);
     forms.map(named).collect()
 }

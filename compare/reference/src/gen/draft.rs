@@ -1,6 +1,6 @@
 //! Random tables, foreign keys, views and goals.
 
-use super::express::{all_places, Bytes, Scope};
+use super::express::{all_places, Bytes, Outlook, Scope};
 use super::{Rng, Size};
 use crate::candidates;
 use crate::layout;
@@ -271,18 +271,16 @@ impl Draft<'_> {
     fn basic(&mut self) -> View {
         let (from, bound) = self.from();
         let count = self.select_count();
-        let ranges = self.ranges.clone();
+        let (ranges, bounds) = (self.ranges.clone(), self.bounds.clone());
         let items = items(&ranges, &from);
         let setting = Setting {
             items: &items,
+            relations: &ranges,
             bound,
         };
-        let scope = Scope {
-            setting,
-            group: None,
-        };
+        let scope = scope(setting, None);
         let mut bytes = Bytes::new(self.rng, 3 + from.len(), 3 * count);
-        let condition = bytes.cond(self.rng, scope, 1);
+        let condition = bytes.cond(self.rng, within_where(setting, &bounds), 1);
         let select: Vec<Expr> = (0..count).map(|_| bytes.expr(self.rng, scope)).collect();
         self.add(bound, selected(setting, &select));
         View::Basic(Basic {
@@ -295,10 +293,11 @@ impl Draft<'_> {
     fn grouped(&mut self) -> View {
         let (from, bound) = self.from();
         let count = self.select_count();
-        let ranges = self.ranges.clone();
+        let (ranges, bounds) = (self.ranges.clone(), self.bounds.clone());
         let items = items(&ranges, &from);
         let setting = Setting {
             items: &items,
+            relations: &ranges,
             bound,
         };
         let places = all_places(&items);
@@ -306,17 +305,10 @@ impl Draft<'_> {
             .rng
             .weighted(&[(30, 0), (42, 1), (18, 2), (6, 3), (4, 4)]);
         let grouping: Vec<Place> = (0..groupings).map(|_| *self.rng.pick(&places)).collect();
-        let member = Scope {
-            setting,
-            group: None,
-        };
-        let group = Scope {
-            setting,
-            group: Some(&grouping),
-        };
+        let group = scope(setting, Some(&grouping));
         let taken = 4 + from.len() + 2 * groupings;
         let mut bytes = Bytes::new(self.rng, taken, 3 * count);
-        let condition = bytes.cond(self.rng, member, 2);
+        let condition = bytes.cond(self.rng, within_where(setting, &bounds), 2);
         let having = bytes.cond(self.rng, group, 1);
         let select: Vec<Expr> = (0..count).map(|_| bytes.expr(self.rng, group)).collect();
         self.add(bound, selected(setting, &select));
@@ -382,6 +374,27 @@ fn fill(rng: &mut Rng, syntax: &mut Syntax) {
 fn items<'a>(ranges: &'a [Vec<Range>], from: &[u8]) -> Vec<&'a [Range]> {
     let of = |relation: &u8| ranges[usize::from(*relation)].as_slice();
     from.iter().map(of).collect()
+}
+
+/// Outside where.
+fn scope<'a>(setting: Setting<'a>, group: Option<&'a [Place]>) -> Scope<'a> {
+    Scope {
+        setting,
+        group,
+        exists: None,
+    }
+}
+
+fn within_where<'a>(setting: Setting<'a>, bounds: &'a [u64]) -> Scope<'a> {
+    let combinations = setting.bound.max(1);
+    Scope {
+        setting,
+        group: None,
+        exists: Some(Outlook {
+            bounds,
+            combinations,
+        }),
+    }
 }
 
 fn selected(setting: Setting, select: &[Expr]) -> Vec<Range> {

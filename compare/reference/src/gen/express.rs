@@ -2,7 +2,7 @@
 
 use super::Rng;
 use crate::range::{Range, Setting};
-use crate::syntax::{Aggregate, Cond, Expr, Place};
+use crate::syntax::{Aggregate, Cond, Expr, Place, OPEN_ITEMS};
 use crate::text::FRAME_BYTES;
 
 /// Where an expression stands.
@@ -12,6 +12,37 @@ pub struct Scope<'a> {
     pub setting: Setting<'a>,
     /// In having and select of an aggregate view, the grouping columns.
     pub group: Option<&'a [Place]>,
+    /// In where, what exists may look into.
+    pub exists: Option<Outlook<'a>>,
+}
+
+/// What exists may look into.
+#[derive(Clone, Copy)]
+pub struct Outlook<'a> {
+    /// The row bound of every relation before the view.
+    pub bounds: &'a [u64],
+    /// How many combinations of rows the items have that are open.
+    pub combinations: u64,
+}
+
+/// An exists is drawn only where its items have no more combinations than this, so that any
+/// evaluator is quick.
+const COMBINATIONS: u64 = 256;
+
+impl Outlook<'_> {
+    /// With the row of one more relation; without rows there is nothing to try.
+    fn opened(self, relation: usize) -> Self {
+        Outlook {
+            combinations: self.combinations * self.bounds[relation].max(1),
+            ..self
+        }
+    }
+
+    fn relations(self) -> Vec<usize> {
+        (0..self.bounds.len())
+            .filter(|&relation| self.opened(relation).combinations <= COMBINATIONS)
+            .collect()
+    }
 }
 
 impl<'a> Scope<'a> {
@@ -20,6 +51,16 @@ impl<'a> Scope<'a> {
         Scope {
             group: None,
             ..self
+        }
+    }
+
+    /// The relations over which an exists of so many bytes may stand here.
+    fn relations(self, bytes: usize) -> Vec<usize> {
+        match self.exists {
+            Some(outlook) if bytes >= 3 && self.setting.items.len() < OPEN_ITEMS => {
+                outlook.relations()
+            }
+            _ => Vec::new(),
         }
     }
 
@@ -117,7 +158,12 @@ fn any_expr(rng: &mut Rng, scope: Scope, bytes: usize) -> Expr {
 }
 
 fn leaf(rng: &mut Rng, scope: Scope) -> Expr {
-    let places = scope.places();
+    let mut places = scope.places();
+    // In where the item opened last is read more often than the others.
+    if scope.exists.is_some() && rng.percent(40) {
+        let last = scope.setting.items.len() - 1;
+        places.retain(|place| usize::from(place.item) == last);
+    }
     if places.is_empty() || rng.percent(25) {
         Expr::Constant(constant(rng))
     } else {
@@ -136,6 +182,9 @@ fn constant(rng: &mut Rng) -> i16 {
 
 /// A condition of at most so many bytes, at least 1.
 pub fn cond(rng: &mut Rng, scope: Scope, bytes: usize) -> Cond {
+    if let Some(drawn) = exists(rng, scope, bytes, 25) {
+        return drawn;
+    }
     if bytes < 7 {
         return if bytes >= 2 && rng.percent(20) {
             Cond::Not(Box::new(cond(rng, scope, bytes - 1)))
@@ -156,6 +205,28 @@ pub fn cond(rng: &mut Rng, scope: Scope, bytes: usize) -> Cond {
         }
         _ => comparison(rng, scope, bytes),
     }
+}
+
+/// An exists of at most so many bytes, in so many of a hundred draws. Often it holds the next one,
+/// so that all six items are met.
+fn exists(rng: &mut Rng, scope: Scope, bytes: usize, percent: usize) -> Option<Cond> {
+    let relations = scope.relations(bytes);
+    if relations.is_empty() || !rng.percent(percent) {
+        return None;
+    }
+    let relation = *rng.pick(&relations);
+    let items = scope.setting.opened(relation as u8);
+    let inside = Scope {
+        setting: Setting {
+            items: &items,
+            ..scope.setting
+        },
+        exists: scope.exists.map(|outlook| outlook.opened(relation)),
+        ..scope
+    };
+    let next = exists(rng, inside, bytes - 2, 40);
+    let condition = next.unwrap_or_else(|| cond(rng, inside, bytes - 2));
+    Some(Cond::Exists(relation as u8, Box::new(condition)))
 }
 
 /// A comparison, often with a constant within the other side's range, so that it is neither
@@ -221,7 +292,8 @@ impl Bytes {
             return Cond::True;
         }
         let most = self.left - self.kept - (conditions - 1);
-        let given = self.give(rng, 1, most);
+        let usual = if scope.exists.is_some() { 34 } else { 22 };
+        let given = self.give(rng, 1, most, usual);
         cond(rng, scope, given)
     }
 
@@ -229,12 +301,12 @@ impl Bytes {
     pub fn expr(&mut self, rng: &mut Rng, scope: Scope) -> Expr {
         self.kept -= 3;
         let most = self.left - self.kept;
-        let given = self.give(rng, 3, most);
+        let given = self.give(rng, 3, most, 22);
         expr(rng, scope, given)
     }
 
-    fn give(&mut self, rng: &mut Rng, least: usize, most: usize) -> usize {
-        let usual = if self.full { most } else { most.min(22) };
+    fn give(&mut self, rng: &mut Rng, least: usize, most: usize, usual: usize) -> usize {
+        let usual = if self.full { most } else { most.min(usual) };
         let least = if self.full {
             least.max(usual / 3)
         } else {

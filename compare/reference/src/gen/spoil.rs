@@ -1,22 +1,23 @@
 //! Damage done to a file's syntax: it reads well byte by byte and breaks, or just keeps, a rule on
 //! the whole frame or the whole file.
 
+use super::walk::{self, Spot};
 use super::Rng;
-use crate::syntax::{Aggregate, Column, Cond, Expr, Place, Syntax, View, RELATIONS};
+use crate::syntax::{Aggregate, Column, Expr, Place, Syntax, View, RELATIONS};
 
 /// A syntax with one thing changed.
 pub fn spoil(rng: &mut Rng, syntax: &Syntax) -> Syntax {
     let mut changed = syntax.clone();
-    match rng.below(12) {
+    match rng.below(13) {
         0 | 1 => aggregate_anywhere(rng, &mut changed),
         2 => column_anywhere(rng, &mut changed),
         3 => other_grouping(rng, &mut changed),
-        4 => longer_from(rng, &mut changed),
-        5 => more_rows(rng, &mut changed),
-        6 => wide_columns(rng, &mut changed),
-        7 => large_values(rng, &mut changed),
-        8 => other_pairing(rng, &mut changed),
-        9 | 10 => other_operands(rng, &mut changed),
+        4 | 5 => longer_from(rng, &mut changed),
+        6 => more_rows(rng, &mut changed),
+        7 => wide_columns(rng, &mut changed),
+        8 => large_values(rng, &mut changed),
+        9 => other_pairing(rng, &mut changed),
+        10 | 11 => other_operands(rng, &mut changed),
         _ => other_goal(rng, &mut changed),
     }
     changed
@@ -33,7 +34,7 @@ fn aggregate_anywhere(rng: &mut Rng, syntax: &mut Syntax) {
 /// Rule on 07: puts a column where another expression stood.
 fn column_anywhere(rng: &mut Rng, syntax: &mut Syntax) {
     let place = Place {
-        item: rng.below(2) as u8,
+        item: rng.below(3) as u8,
         column: rng.below(3) as u8,
     };
     change_expr(rng, syntax, |expr| *expr = Expr::Column(place));
@@ -114,14 +115,7 @@ fn wide_columns(rng: &mut Rng, syntax: &mut Syntax) {
 
 /// Range: an expression at an end of 32 bits or just past it, or a square of what stood there.
 fn large_values(rng: &mut Rng, syntax: &mut Syntax) {
-    let number = |value: i16| Box::new(Expr::Constant(value));
-    let twice = |more| {
-        let double = Box::new(Expr::Sum(number(i16::MAX), number(i16::MAX)));
-        Box::new(Expr::Sum(double, number(more)))
-    };
-    // 32,767 × (65,534 + 4) + 1 = 2^31 - 1, and -32,768 × (65,534 + 2) = -2^31.
-    let upper = Box::new(Expr::Product(number(i16::MAX), twice(4)));
-    let lower = Box::new(Expr::Product(number(i16::MIN), twice(2)));
+    let (upper, lower) = (Box::new(near_upper()), Box::new(near_lower()));
     match rng.below(6) {
         0 => change_expr(rng, syntax, |expr| *expr = Expr::Sum(upper, number(1))),
         1 => change_expr(rng, syntax, |expr| *expr = Expr::Sum(upper, number(2))),
@@ -139,6 +133,26 @@ fn large_values(rng: &mut Rng, syntax: &mut Syntax) {
             *expr = Expr::Product(square.clone(), square);
         }),
     }
+}
+
+fn number(value: i16) -> Box<Expr> {
+    Box::new(Expr::Constant(value))
+}
+
+/// 65,534 and some more.
+fn twice(more: i16) -> Box<Expr> {
+    let double = Box::new(Expr::Sum(number(i16::MAX), number(i16::MAX)));
+    Box::new(Expr::Sum(double, number(more)))
+}
+
+/// One below the upper end of 32 bits: 32,767 × (65,534 + 4) = 2^31 - 2.
+pub fn near_upper() -> Expr {
+    Expr::Product(number(i16::MAX), twice(4))
+}
+
+/// The lower end of 32 bits: -32,768 × (65,534 + 2) = -2^31.
+pub fn near_lower() -> Expr {
+    Expr::Product(number(i16::MIN), twice(2))
 }
 
 /// Pairing: pairs taken away, added, doubled or exchanged.
@@ -195,75 +209,10 @@ fn other_goal(rng: &mut Rng, syntax: &mut Syntax) {
 
 /// Changes one expression of the views, each being as likely.
 fn change_expr(rng: &mut Rng, syntax: &mut Syntax, change: impl FnOnce(&mut Expr)) {
-    let mut count = 0;
-    each_expr(syntax, &mut |_| count += 1);
-    if count == 0 {
-        return;
-    }
-    let mut left = rng.below(count) as i64;
-    let mut change = Some(change);
-    each_expr(syntax, &mut |expr| {
-        if left == 0 {
-            if let Some(change) = change.take() {
-                change(expr);
-            }
+    let fits = |_, spot: &Spot| matches!(spot, Spot::Expr(_));
+    walk::change(rng, syntax, fits, |_, _, spot| {
+        if let Spot::Expr(expr) = spot {
+            change(expr);
         }
-        left -= 1;
     });
-}
-
-/// Visits every expression of the views, an expression before its parts.
-fn each_expr(syntax: &mut Syntax, visit: &mut dyn FnMut(&mut Expr)) {
-    for view in &mut syntax.views {
-        match view {
-            View::Basic(basic) => {
-                in_cond(&mut basic.condition, visit);
-                basic
-                    .select
-                    .iter_mut()
-                    .for_each(|expr| in_expr(expr, visit));
-            }
-            View::Aggregate(grouped) => {
-                in_cond(&mut grouped.condition, visit);
-                in_cond(&mut grouped.having, visit);
-                grouped
-                    .select
-                    .iter_mut()
-                    .for_each(|expr| in_expr(expr, visit));
-            }
-            View::Union(..) | View::Intersection(..) => {}
-        }
-    }
-}
-
-fn in_expr(expr: &mut Expr, visit: &mut dyn FnMut(&mut Expr)) {
-    visit(expr);
-    match expr {
-        Expr::Constant(_) | Expr::Column(_) => {}
-        Expr::Sum(a, b) | Expr::Difference(a, b) | Expr::Product(a, b) => {
-            in_expr(a, visit);
-            in_expr(b, visit);
-        }
-        Expr::Nearest(_, a) | Expr::Aggregate(_, a) => in_expr(a, visit),
-        Expr::If(condition, a, b) => {
-            in_cond(condition, visit);
-            in_expr(a, visit);
-            in_expr(b, visit);
-        }
-    }
-}
-
-fn in_cond(condition: &mut Cond, visit: &mut dyn FnMut(&mut Expr)) {
-    match condition {
-        Cond::True => {}
-        Cond::Equal(a, b) | Cond::Less(a, b) | Cond::LessOrEqual(a, b) => {
-            in_expr(a, visit);
-            in_expr(b, visit);
-        }
-        Cond::Not(a) => in_cond(a, visit),
-        Cond::And(a, b) | Cond::Or(a, b) => {
-            in_cond(a, visit);
-            in_cond(b, visit);
-        }
-    }
 }

@@ -66,7 +66,7 @@ fn wanted(syntax: &Syntax) -> Vec<usize> {
             return;
         };
         marks[usize::from(relation)] = true;
-        below(view)
+        view.reads()
             .iter()
             .for_each(|&lower| rows(syntax, lower, marks));
     }
@@ -80,7 +80,8 @@ fn wanted(syntax: &Syntax) -> Vec<usize> {
                 shown(syntax, *left, negative, marks);
                 shown(syntax, *right, negative, marks);
             }
-            Some(view) => below(view)
+            Some(view) => view
+                .reads()
                 .iter()
                 .for_each(|&lower| rows(syntax, lower, marks)),
             None => {}
@@ -89,12 +90,4 @@ fn wanted(syntax: &Syntax) -> Vec<usize> {
     let mut marks = [false; RELATIONS];
     shown(syntax, syntax.goal.view, syntax.goal.negative, &mut marks);
     (0..RELATIONS).filter(|&relation| marks[relation]).collect()
-}
-
-fn below(view: &View) -> Vec<u8> {
-    match view {
-        View::Basic(basic) => basic.from.clone(),
-        View::Aggregate(grouped) => grouped.from.clone(),
-        View::Union(left, right) | View::Intersection(left, right) => vec![*left, *right],
-    }
 }

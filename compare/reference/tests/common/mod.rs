@@ -1,6 +1,8 @@
 //! Helpers shared by the tests.
 #![allow(dead_code)]
 
+pub mod exists;
+
 use reference::look::WORK;
 use reference::{look, read, Answer, File};
 
