@@ -7,7 +7,7 @@
 Our rows and verdicts come from the proved evaluator, through compare/evaluation/examples/databases.rs, for the marked
 examples of document 01, the rule files examples/*.rules, those at the paths, and random files.
 PostgreSQL's come from a private server on a local socket (server.py), over SQL made from the same rule file (sql.py) by a
-decoder that knows document 01 and none of our code (rulefile.py). Compared, for each database:
+decoder that knows documents 01 and 02 and none of our code (rulefile.py). Compared, for each database:
 
 - its tables: the candidate's number as this script reads it, and the cells that our evaluator kept;
 - every view: the rows as a bag, since SQL has no order;
@@ -67,8 +67,9 @@ OVER_NOTHING = (
 REQUIRED = [
     *(f"view: {kind}" for kind in ("basic", "aggregate", "union", "intersection")),
     *(f"grouping columns: {count}" for count in range(5)),
-    *(f"token {token:02x}" for token in [*range(8), *range(0x10, 0x17)]),
+    *(f"token {token:02x}" for token in [*range(8), *range(0x10, 0x18)]),
     *(f"aggregate {kind}" for kind in range(4)),
+    *(f"exists: {what}" for what in ("over a table", "over a view", "below not", "within another", "in an aggregate view")),
     *(f"accepts: {answer}" for answer in ("valid", "key", "foreign-key")),
     *(
         f"verdict: {sign} {kind}, {verdict}"
@@ -245,6 +246,7 @@ class Check:
                 self.met[f"grouping columns: {len(view.grouping)}"] += 1
             if view.kind in ("basic", "aggregate"):
                 self.mark_tokens([view.where, view.having, *view.select])
+                self.mark_exists(file, view)
 
     def mark_tokens(self, trees):
         for tree in trees:
@@ -252,6 +254,16 @@ class Check:
                 self.met[f"token {part[0]:02x}"] += 1
                 if part[0] == 7:
                     self.met[f"aggregate {part[1]}"] += 1
+
+    def mark_exists(self, file, view):
+        """What stands around each exists and within it. It stands in where alone."""
+        for part in sql.parts(view.where):
+            if part[0] == 0x14:
+                self.met["exists: below not"] += part[1][0] == 0x17
+            if part[0] == 0x17:
+                self.met[f"exists: over a {'table' if part[1] < len(file.tables) else 'view'}"] += 1
+                self.met["exists: within another"] += any(inner[0] == 0x17 for inner in sql.parts(part[2]))
+                self.met["exists: in an aggregate view"] += view.kind == "aggregate"
 
     def finish(self, required):
         """The summary; whether all is well."""

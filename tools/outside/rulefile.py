@@ -1,10 +1,10 @@
-"""A rule file's frames, read from document 01 alone and from none of our code.
+"""A rule file's frames, read from documents 01 and 02 alone and from none of our code.
 
 Only accepted files are read: limits are not tested, but every frame must end where its bytes do.
 
 Expressions and conditions are tuples with the token first:
 (0, constant), (1, item, column), (2 | 3 | 4, a, b), (5, step, a), (6, condition, a, b), (7, aggregate, a),
-(0x10,), (0x11 | 0x12 | 0x13, a, b), (0x14, condition), (0x15 | 0x16, condition, condition).
+(0x10,), (0x11 | 0x12 | 0x13, a, b), (0x14, condition), (0x15 | 0x16, condition, condition), (0x17, relation, condition).
 """
 
 from dataclasses import dataclass, field
@@ -128,6 +128,8 @@ class Bytes:
             return (token, self.condition())
         if token in (0x15, 0x16):
             return (token, self.condition(), self.condition())
+        if token == 0x17:
+            return (token, self.byte(), self.condition())
         raise ValueError(f"token {token:02x} for a condition")
 
 

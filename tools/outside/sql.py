@@ -1,8 +1,8 @@
 """The SQL of a rule file: tables without keys, the same with keys, views, and what is asked of them.
 
-Relation i is r<i>, with columns c0, c1 and so on; all numbers are bigint. A table stands there twice: as r<i>, which
-takes any rows and is what the views are over, and as kept<i>, with its ranges, primary key and foreign keys, so that
-PostgreSQL itself accepts or refuses the rows.
+Relation i is r<i>, with columns c0, c1 and so on; all numbers are bigint. From item i is f<i>, also that of an exists. A
+table stands there twice: as r<i>, which takes any rows and is what the views are over, and as kept<i>, with its ranges,
+primary key and foreign keys, so that PostgreSQL itself accepts or refuses the rows.
 
 Where SQL and document 01 differ: an aggregate over nothing. "A group has at least one member, also with no grouping
 columns"; SQL gives one row there. The views and their negations ask for count(*) > 0 in that case, and their twins, plain<i>
@@ -36,30 +36,35 @@ END $$;
 """
 
 
-def expression(e):
+def expression(e, items):
+    """The SQL of an expression where so many from items are open."""
     token = e[0]
     if token == 0:
         return f"({e[1]})::bigint"
     if token == 1:
         return f"f{e[1]}.c{e[2]}"
     if token in (2, 3, 4):
-        return f"({expression(e[1])} {'+-*'[token - 2]} {expression(e[2])})"
+        return f"({expression(e[1], items)} {'+-*'[token - 2]} {expression(e[2], items)})"
     if token == 5:
-        return f"nearest({e[1]}, {expression(e[2])})"
+        return f"nearest({e[1]}, {expression(e[2], items)})"
     if token == 6:
-        return f"CASE WHEN {condition(e[1])} THEN {expression(e[2])} ELSE {expression(e[3])} END"
-    return f"{('count', 'sum', 'min', 'max')[e[1]]}({expression(e[2])})::bigint"
+        first, second = expression(e[2], items), expression(e[3], items)
+        return f"CASE WHEN {condition(e[1], items)} THEN {first} ELSE {second} END"
+    return f"{('count', 'sum', 'min', 'max')[e[1]]}({expression(e[2], items)})::bigint"
 
 
-def condition(c):
+def condition(c, items):
+    """The SQL of a condition where so many from items are open; an exists opens one more."""
     token = c[0]
     if token == 0x10:
         return "true"
     if token in (0x11, 0x12, 0x13):
-        return f"({expression(c[1])} {('=', '<', '<=')[token - 0x11]} {expression(c[2])})"
+        return f"({expression(c[1], items)} {('=', '<', '<=')[token - 0x11]} {expression(c[2], items)})"
     if token == 0x14:
-        return f"(NOT {condition(c[1])})"
-    return f"({condition(c[1])} {('AND', 'OR')[token - 0x15]} {condition(c[2])})"
+        return f"(NOT {condition(c[1], items)})"
+    if token == 0x17:
+        return f"EXISTS (SELECT 1 FROM r{c[1]} AS f{items} WHERE {condition(c[2], items + 1)})"
+    return f"({condition(c[1], items)} {('AND', 'OR')[token - 0x15]} {condition(c[2], items)})"
 
 
 def parts(e):
@@ -74,8 +79,8 @@ def names(count):
     return ", ".join(f"c{column}" for column in range(count))
 
 
-def negated(c, no):
-    return f"NOT ({condition(c)})" if no else condition(c)
+def negated(c, items, no):
+    return f"NOT ({condition(c, items)})" if no else condition(c, items)
 
 
 def over_nothing(view):
@@ -85,14 +90,15 @@ def over_nothing(view):
 
 def select(view, not_where=False, not_having=False, members=True):
     """The query of a basic or an aggregate view, its conditions negated as told."""
-    columns = ", ".join(f"{expression(e)} AS c{at}" for at, e in enumerate(view.select))
+    items = len(view.sources)
+    columns = ", ".join(f"{expression(e, items)} AS c{at}" for at, e in enumerate(view.select))
     sources = ", ".join(f"r{relation} f{at}" for at, relation in enumerate(view.sources))
-    query = f"SELECT {columns} FROM {sources} WHERE {negated(view.where, not_where)}"
+    query = f"SELECT {columns} FROM {sources} WHERE {negated(view.where, items, not_where)}"
     if view.kind == "basic":
         return query
     grouping = ", ".join(f"f{item}.c{column}" for item, column in view.grouping) or "()"
     least = "count(*) > 0 AND " if members and over_nothing(view) else ""
-    return f"{query} GROUP BY {grouping} HAVING {least}({negated(view.having, not_having)})"
+    return f"{query} GROUP BY {grouping} HAVING {least}({negated(view.having, items, not_having)})"
 
 
 def query_of(view):
@@ -109,13 +115,22 @@ def negations(view):
     return ((True, False),) if view.kind == "basic" else ()
 
 
+def used(e, items):
+    """The relation of each column and each exists in an expression or condition, the open from items being these."""
+    if e[0] == 1:
+        return [items[e[1]]]
+    opened = [e[1]] if e[0] == 0x17 else []
+    inner = [part for part in e[1:] if isinstance(part, tuple)]
+    return opened + [relation for part in inner for relation in used(part, [*items, *opened])]
+
+
 def weight(view, weights):
     """How many parts the view has when the views below are unfolded into it, roughly."""
     if view.kind in ("union", "intersection"):
         return 1 + weights[view.left] + weights[view.right]
     trees = [view.where, view.having, *view.select]
-    used = [view.sources[e[1]] for tree in trees for e in parts(tree) if e[0] == 1]
-    return 1 + sum(weights[relation] for relation in [*view.sources, *used])
+    named = [relation for tree in trees for relation in used(tree, view.sources)]
+    return 1 + sum(weights[relation] for relation in [*view.sources, *named])
 
 
 def materialized(file):

@@ -4,7 +4,7 @@ use crate::token::{Placed, Token};
 use crate::Fault;
 
 /// Words that cannot name a from item.
-const KEYWORDS: [&str; 32] = [
+const KEYWORDS: [&str; 33] = [
     "TABLE",
     "ROWS",
     "KEY",
@@ -26,6 +26,7 @@ const KEYWORDS: [&str; 32] = [
     "AND",
     "OR",
     "NOT",
+    "EXISTS",
     "TRUE",
     "CASE",
     "WHEN",
@@ -98,6 +99,16 @@ impl<'a> Cursor<'a> {
     pub fn symbol(&mut self, symbol: &str) -> bool {
         let next = matches!(self.peek(), Some(Token::Symbol(it)) if *it == symbol);
         self.at += usize::from(next);
+        next
+    }
+
+    /// Takes `EXISTS (FROM`, if it is next.
+    pub fn exists(&mut self) -> bool {
+        let at = self.at;
+        let next = self.keyword("EXISTS") && self.symbol("(") && self.keyword("FROM");
+        if !next {
+            self.at = at;
+        }
         next
     }
 

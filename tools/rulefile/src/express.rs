@@ -5,16 +5,14 @@
 //! parenthesis does not tell which one follows; each place then says which kind is due.
 
 use crate::cursor::Cursor;
+use crate::scope::Scope;
 use crate::token::Token;
 use crate::Fault;
-use reference::syntax::{Aggregate, Cond, Expr, Place};
+use reference::syntax::{Aggregate, Cond, Expr};
 
 /// At most so many operators and parentheses in one clause: more than 120 frame bytes hold, few
 /// enough to call one function in another.
 const OPERATORS: usize = 256;
-
-/// A from item of a view: its name, and how many columns it has.
-pub type Item = (String, usize);
 
 /// An expression or a condition.
 enum Value {
@@ -25,48 +23,22 @@ enum Value {
 /// A reader of one clause.
 pub struct Express<'c, 'a> {
     cursor: &'c mut Cursor<'a>,
-    scope: &'c [Item],
+    scope: &'c mut Scope,
     operators: usize,
 }
 
 /// An expression from here.
-pub fn expr(cursor: &mut Cursor, scope: &[Item]) -> Result<Expr, Fault> {
+pub fn expr(cursor: &mut Cursor, scope: &mut Scope) -> Result<Expr, Fault> {
     Express::new(cursor, scope).expr()
 }
 
 /// A condition from here.
-pub fn cond(cursor: &mut Cursor, scope: &[Item]) -> Result<Cond, Fault> {
+pub fn cond(cursor: &mut Cursor, scope: &mut Scope) -> Result<Cond, Fault> {
     Express::new(cursor, scope).cond()
 }
 
-/// A column such as `a.c0` from here.
-pub fn place(cursor: &mut Cursor, scope: &[Item]) -> Result<Place, Fault> {
-    let line = cursor.line();
-    let name = cursor.free_word("an expression or a condition")?;
-    let Some(item) = scope.iter().position(|it| it.0 == name) else {
-        let what = format!("FROM has no item named `{name}`");
-        return Err(Fault { line, what });
-    };
-    cursor.need_symbol(".")?;
-    let column = column(cursor, scope[item].1)?;
-    let item = item as u8;
-    Ok(Place { item, column })
-}
-
-/// A column of a relation with so many columns.
-pub fn column(cursor: &mut Cursor, columns: usize) -> Result<u8, Fault> {
-    let line = cursor.line();
-    let (_, column) = cursor.numbered("c", "a column such as c0")?;
-    if usize::from(column) < columns {
-        return Ok(column);
-    }
-    let last = columns.saturating_sub(1);
-    let what = format!("no column c{column} there: its last is c{last}");
-    Err(Fault { line, what })
-}
-
 impl<'c, 'a> Express<'c, 'a> {
-    fn new(cursor: &'c mut Cursor<'a>, scope: &'c [Item]) -> Self {
+    fn new(cursor: &'c mut Cursor<'a>, scope: &'c mut Scope) -> Self {
         Express {
             cursor,
             scope,
@@ -188,13 +160,16 @@ impl<'c, 'a> Express<'c, 'a> {
         Ok(left)
     }
 
-    /// A number, a column, a call, a choice, `TRUE`, or something in parentheses.
+    /// A number, a column, a call, a choice, `TRUE`, `EXISTS`, or something in parentheses.
     fn single(&mut self) -> Result<Value, Fault> {
         if self.cursor.symbol("(") {
             return self.inside();
         }
         if self.cursor.keyword("TRUE") {
             return Ok(Value::Cond(Cond::True));
+        }
+        if self.cursor.keyword("EXISTS") {
+            return self.exists();
         }
         if let Some(Token::Number(_) | Token::Symbol("-")) = self.cursor.peek() {
             return self.constant();
@@ -208,7 +183,7 @@ impl<'c, 'a> Express<'c, 'a> {
         if let Some(aggregate) = self.aggregate() {
             return self.call(aggregate);
         }
-        let place = place(self.cursor, self.scope)?;
+        let place = self.scope.place(self.cursor)?;
         Ok(Value::Expr(Expr::Column(place)))
     }
 
@@ -224,6 +199,26 @@ impl<'c, 'a> Express<'c, 'a> {
         let value = self.either()?;
         self.cursor.need_symbol(")")?;
         Ok(value)
+    }
+
+    /// What follows `EXISTS`. Its from item is open inside its parentheses alone.
+    fn exists(&mut self) -> Result<Value, Fault> {
+        self.count()?;
+        if self.scope.is_full() {
+            let what = "there are more than 6 from items with those of EXISTS";
+            return self.cursor.fault(what);
+        }
+        self.cursor.need_symbol("(")?;
+        self.cursor.need_keyword("FROM")?;
+        let relation = self.scope.open(self.cursor)?;
+        let condition = if self.cursor.keyword("WHERE") {
+            self.cond()?
+        } else {
+            Cond::True
+        };
+        self.scope.close();
+        self.cursor.need_symbol(")")?;
+        Ok(Value::Cond(Cond::Exists(relation, Box::new(condition))))
     }
 
     /// What follows `ROUND`.

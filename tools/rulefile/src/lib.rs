@@ -11,6 +11,7 @@ mod cursor;
 mod express;
 pub mod parse;
 pub mod refusal;
+mod scope;
 mod token;
 pub mod write;
 

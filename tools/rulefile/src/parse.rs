@@ -4,7 +4,8 @@
 //! long for their fields. The other rules of the format are left to its reader.
 
 use crate::cursor::Cursor;
-use crate::express::{column, cond, expr, place, Item};
+use crate::express::{cond, expr};
+use crate::scope::{column, Relations, Scope};
 use crate::token::tokens;
 use crate::Fault;
 use reference::syntax::{
@@ -39,8 +40,7 @@ struct Statements<'a> {
     keys: Vec<ForeignKey>,
     views: Vec<View>,
     goal: Option<Goal>,
-    /// How many columns each relation has.
-    columns: Vec<usize>,
+    relations: Relations,
     lines: Vec<usize>,
 }
 
@@ -52,7 +52,7 @@ impl<'a> Statements<'a> {
             keys: Vec::new(),
             views: Vec::new(),
             goal: None,
-            columns: Vec::new(),
+            relations: Relations::default(),
             lines: Vec::new(),
         }
     }
@@ -100,7 +100,7 @@ impl<'a> Statements<'a> {
 
     /// The name of the relation that this statement makes.
     fn new_name(&mut self, letter: char) -> Result<(), Fault> {
-        let name = format!("{letter}{}", self.columns.len());
+        let name = format!("{letter}{}", self.relations.columns.len());
         if self.cursor.keyword(&name) {
             return Ok(());
         }
@@ -124,7 +124,8 @@ impl<'a> Statements<'a> {
         let marks = columns.iter().enumerate();
         let key_mask = marks.map(|(place, it)| u8::from(it.1) << place).sum();
         let columns: Vec<Column> = columns.into_iter().map(|it| it.0).collect();
-        self.columns.push(columns.len());
+        self.relations.tables += 1;
+        self.relations.columns.push(columns.len());
         self.tables.push(Table {
             rows,
             key_mask,
@@ -155,7 +156,7 @@ impl<'a> Statements<'a> {
     /// A table and some of its columns.
     fn table_columns(&mut self) -> Result<(u8, Vec<u8>), Fault> {
         let table = self.relation("t", "a table such as t0")?;
-        let columns = self.columns[usize::from(table)];
+        let columns = self.relations.columns[usize::from(table)];
         self.cursor.need_symbol("(")?;
         let named = self
             .cursor
@@ -166,15 +167,7 @@ impl<'a> Statements<'a> {
 
     /// The name of an earlier relation of a kind.
     fn relation(&mut self, letters: &str, due: &str) -> Result<u8, Fault> {
-        let line = self.cursor.line();
-        let (letter, number) = self.cursor.numbered(letters, due)?;
-        let place = usize::from(number);
-        let kind = if place < self.tables.len() { 't' } else { 'v' };
-        if place < self.columns.len() && kind == letter {
-            return Ok(number);
-        }
-        let what = format!("no relation {letter}{number} stands before this statement");
-        Err(Fault { line, what })
+        self.relations.named(&mut self.cursor, letters, due)
     }
 
     fn earlier_view(&mut self) -> Result<u8, Fault> {
@@ -202,7 +195,7 @@ impl<'a> Statements<'a> {
             self.set()?
         };
         self.views.push(view);
-        self.columns.push(columns);
+        self.relations.columns.push(columns);
         Ok(())
     }
 
@@ -217,25 +210,27 @@ impl<'a> Statements<'a> {
             return self.cursor.due("UNION or INTERSECT");
         };
         let right = self.earlier_view()?;
-        Ok((make(left, right), self.columns[usize::from(left)]))
+        let columns = self.relations.columns[usize::from(left)];
+        Ok((make(left, right), columns))
     }
 
     /// What follows `SELECT`. The from list is read first, since it gives the names in `SELECT`.
     fn selection(&mut self) -> Result<(View, usize), Fault> {
         let select_at = self.cursor.at;
         self.skip_to_from()?;
-        let (from, scope) = self.from()?;
+        let (from, mut scope) = self.from()?;
         let after = self.cursor.at;
         self.cursor.at = select_at;
         let select = self
             .cursor
-            .list(8, "select expressions", |cursor| expr(cursor, &scope))?;
+            .list(8, "select expressions", |cursor| expr(cursor, &mut scope))?;
         self.cursor.need_keyword("FROM")?;
         self.cursor.at = after;
         let count = select.len();
-        Ok((self.clauses(from, &scope, select)?, count))
+        Ok((self.clauses(from, &mut scope, select)?, count))
     }
 
+    /// The from list of an exists in `SELECT` is not the view's.
     fn skip_to_from(&mut self) -> Result<(), Fault> {
         let begin = self.cursor.at;
         while !self.cursor.keyword("FROM") {
@@ -243,26 +238,19 @@ impl<'a> Statements<'a> {
                 self.cursor.at = begin;
                 return self.cursor.fault("SELECT without FROM");
             }
-            self.cursor.at += 1;
+            if !self.cursor.exists() {
+                self.cursor.at += 1;
+            }
         }
         Ok(())
     }
 
-    /// The from list: its relations, and the name and columns of each.
-    fn from(&mut self) -> Result<(Vec<u8>, Vec<Item>), Fault> {
+    /// The from list: its relations, and what can be named behind it.
+    fn from(&mut self) -> Result<(Vec<u8>, Scope), Fault> {
         let mut from = Vec::new();
-        let mut scope: Vec<Item> = Vec::new();
+        let mut scope = Scope::new(&self.relations);
         loop {
-            let relation = self.relation("tv", "a table or view such as t0 or v1")?;
-            self.cursor.keyword("AS");
-            let name = self
-                .cursor
-                .free_word("a name such as a for the from item")?;
-            if scope.iter().any(|it| it.0 == name) {
-                return self.cursor.fault(format!("two from items named `{name}`"));
-            }
-            from.push(relation);
-            scope.push((name, self.columns[usize::from(relation)]));
+            from.push(scope.open(&mut self.cursor)?);
             if !self.cursor.symbol(",") {
                 return Ok((from, scope));
             }
@@ -274,7 +262,12 @@ impl<'a> Statements<'a> {
 
     /// What follows the from list. A condition left out is `TRUE`; `GROUP BY` makes the view an
     /// aggregate one.
-    fn clauses(&mut self, from: Vec<u8>, scope: &[Item], select: Vec<Expr>) -> Result<View, Fault> {
+    fn clauses(
+        &mut self,
+        from: Vec<u8>,
+        scope: &mut Scope,
+        select: Vec<Expr>,
+    ) -> Result<View, Fault> {
         let condition = self.condition("WHERE", scope)?;
         let grouped = self.cursor.keyword("GROUP");
         if !grouped && self.cursor.sees("HAVING") {
@@ -299,7 +292,7 @@ impl<'a> Statements<'a> {
         }))
     }
 
-    fn condition(&mut self, keyword: &str, scope: &[Item]) -> Result<Cond, Fault> {
+    fn condition(&mut self, keyword: &str, scope: &mut Scope) -> Result<Cond, Fault> {
         if self.cursor.keyword(keyword) {
             cond(&mut self.cursor, scope)
         } else {
@@ -308,14 +301,14 @@ impl<'a> Statements<'a> {
     }
 
     /// What follows `GROUP`.
-    fn grouping(&mut self, scope: &[Item]) -> Result<Vec<Place>, Fault> {
+    fn grouping(&mut self, scope: &Scope) -> Result<Vec<Place>, Fault> {
         self.cursor.need_keyword("BY")?;
         if self.cursor.symbol("(") {
             self.cursor.need_symbol(")")?;
             return Ok(Vec::new());
         }
         self.cursor
-            .list(4, "grouping columns", |cursor| place(cursor, scope))
+            .list(4, "grouping columns", |cursor| scope.place(cursor))
     }
 }
 

@@ -10,8 +10,8 @@ use reference::File;
 /// The first line of every text.
 pub const NOTICE: &str = "-- Readable text of a rule file: a convenience, which proves nothing.";
 
-/// The names of from items.
-pub const ITEMS: [&str; 3] = ["a", "b", "c"];
+/// The names of from items, by number.
+const ITEMS: [&str; 6] = ["a", "b", "c", "d", "e", "f"];
 
 /// A statement longer than this is broken into lines.
 const WIDTH: usize = 96;
@@ -27,6 +27,7 @@ pub fn file(file: &File) -> String {
 pub fn syntax(syntax: &Syntax) -> String {
     let writer = Writer {
         tables: syntax.tables.len(),
+        open: 0,
     };
     let tables = syntax.tables.iter().enumerate();
     let views = syntax.views.iter().enumerate();
@@ -60,9 +61,12 @@ fn clauses(head: String, clauses: Vec<String>) -> String {
 }
 
 /// What names need.
-struct Writer {
+#[derive(Clone, Copy, Debug)]
+pub struct Writer {
     /// Relations below this number are tables.
-    tables: usize,
+    pub tables: usize,
+    /// How many from items are open: the number of the next one.
+    pub open: usize,
 }
 
 impl Writer {
@@ -97,8 +101,8 @@ impl Writer {
     fn view(&self, number: usize, view: &View) -> String {
         let head = format!("VIEW v{number} AS");
         match view {
-            View::Basic(it) => clauses(head, self.basic(it)),
-            View::Aggregate(it) => clauses(head, self.grouped(it)),
+            View::Basic(it) => clauses(head, self.with(it.from.len()).basic(it)),
+            View::Aggregate(it) => clauses(head, self.with(it.from.len()).grouped(it)),
             View::Union(a, b) => format!("{head} {} UNION {}", self.name(*a), self.name(*b)),
             View::Intersection(a, b) => {
                 format!("{head} {} INTERSECT {}", self.name(*a), self.name(*b))
@@ -106,35 +110,100 @@ impl Writer {
         }
     }
 
+    /// The same with so many open from items.
+    fn with(self, open: usize) -> Writer {
+        Writer { open, ..self }
+    }
+
     fn basic(&self, basic: &Basic) -> Vec<String> {
         let mut clauses = self.select_from(&basic.select, &basic.from);
-        clauses.extend(condition("WHERE", &basic.condition));
+        clauses.extend(self.condition("WHERE", &basic.condition));
         clauses
     }
 
     fn grouped(&self, grouped: &Grouped) -> Vec<String> {
         let mut clauses = self.select_from(&grouped.select, &grouped.from);
-        clauses.extend(condition("WHERE", &grouped.condition));
+        clauses.extend(self.condition("WHERE", &grouped.condition));
         clauses.push(group_by(&grouped.grouping));
-        clauses.extend(condition("HAVING", &grouped.having));
+        clauses.extend(self.condition("HAVING", &grouped.having));
         clauses
     }
 
     fn select_from(&self, select: &[Expr], from: &[u8]) -> Vec<String> {
-        let items = from.iter().enumerate().map(|(place, relation)| {
-            let item = ITEMS.get(place).unwrap_or(&"?");
-            format!("{} {item}", self.name(*relation))
-        });
+        let items = from.iter().enumerate();
+        let items = items.map(|(number, relation)| self.opened(*relation, number));
         vec![
-            format!("SELECT {}", list(select.iter().map(expr))),
+            format!("SELECT {}", list(select.iter().map(|it| self.expr(it)))),
             format!("FROM {}", list(items)),
         ]
     }
-}
 
-/// A where or having clause, left out when it is `TRUE`.
-fn condition(keyword: &str, condition: &Cond) -> Option<String> {
-    (*condition != Cond::True).then(|| format!("{keyword} {}", cond(condition)))
+    /// A from item such as `t0 a`.
+    fn opened(&self, relation: u8, number: usize) -> String {
+        format!("{} {}", self.name(relation), item(number))
+    }
+
+    /// A where or having clause, left out when it is `TRUE`.
+    fn condition(&self, keyword: &str, condition: &Cond) -> Option<String> {
+        (*condition != Cond::True).then(|| format!("{keyword} {}", self.cond(condition)))
+    }
+
+    /// An expression.
+    pub fn expr(&self, it: &Expr) -> String {
+        match it {
+            Expr::Constant(value) => value.to_string(),
+            Expr::Column(it) => place(it),
+            Expr::Sum(a, b) => format!("{} + {}", self.expr(a), self.operand(b, is_sum)),
+            Expr::Difference(a, b) => format!("{} - {}", self.expr(a), self.operand(b, is_sum)),
+            Expr::Product(a, b) => {
+                let (a, b) = (self.operand(a, is_sum), self.operand(b, is_operation));
+                format!("{a} * {b}")
+            }
+            Expr::Nearest(step, a) => format!("ROUND({}, {step})", self.expr(a)),
+            Expr::If(c, a, b) => {
+                let (c, a, b) = (self.cond(c), self.expr(a), self.expr(b));
+                format!("CASE WHEN {c} THEN {a} ELSE {b} END")
+            }
+            Expr::Aggregate(aggregate, a) => {
+                format!("{}({})", aggregate_name(*aggregate), self.expr(a))
+            }
+        }
+    }
+
+    /// An operand, in parentheses if it is one of those that need them there.
+    fn operand(&self, it: &Expr, needed: fn(&Expr) -> bool) -> String {
+        parenthesised(self.expr(it), needed(it))
+    }
+
+    /// A condition.
+    pub fn cond(&self, it: &Cond) -> String {
+        match it {
+            Cond::True => "TRUE".to_owned(),
+            Cond::Equal(a, b) => format!("{} = {}", self.expr(a), self.expr(b)),
+            Cond::Less(a, b) => format!("{} < {}", self.expr(a), self.expr(b)),
+            Cond::LessOrEqual(a, b) => format!("{} <= {}", self.expr(a), self.expr(b)),
+            Cond::Not(a) => format!("NOT {}", self.part(a, is_not_simple)),
+            Cond::And(a, b) => {
+                let (a, b) = (self.part(a, is_or), self.part(b, is_connective));
+                format!("{a} AND {b}")
+            }
+            Cond::Or(a, b) => format!("{} OR {}", self.cond(a), self.part(b, is_or)),
+            Cond::Exists(relation, a) => self.exists(*relation, a),
+        }
+    }
+
+    /// A part of a condition, in parentheses if it is one of those that need them there.
+    fn part(&self, it: &Cond, needed: fn(&Cond) -> bool) -> String {
+        parenthesised(self.cond(it), needed(it))
+    }
+
+    /// Inside, the relation's row is one more from item.
+    fn exists(&self, relation: u8, condition: &Cond) -> String {
+        let inside = self.with(self.open + 1);
+        let mut words = vec![format!("FROM {}", self.opened(relation, self.open))];
+        words.extend(inside.condition("WHERE", condition));
+        format!("EXISTS ({})", words.join(" "))
+    }
 }
 
 /// The mark of an aggregate view, so it stands also with no grouping columns.
@@ -146,28 +215,12 @@ fn group_by(grouping: &[Place]) -> String {
     }
 }
 
-fn place(place: &Place) -> String {
-    let item = ITEMS.get(usize::from(place.item)).unwrap_or(&"?");
-    format!("{item}.c{}", place.column)
+fn item(number: usize) -> &'static str {
+    ITEMS.get(number).unwrap_or(&"?")
 }
 
-/// An expression.
-pub fn expr(it: &Expr) -> String {
-    match it {
-        Expr::Constant(value) => value.to_string(),
-        Expr::Column(it) => place(it),
-        Expr::Sum(a, b) => format!("{} + {}", expr(a), operand(b, is_sum)),
-        Expr::Difference(a, b) => format!("{} - {}", expr(a), operand(b, is_sum)),
-        Expr::Product(a, b) => {
-            format!("{} * {}", operand(a, is_sum), operand(b, is_operation))
-        }
-        Expr::Nearest(step, a) => format!("ROUND({}, {step})", expr(a)),
-        Expr::If(c, a, b) => {
-            let (c, a, b) = (cond(c), expr(a), expr(b));
-            format!("CASE WHEN {c} THEN {a} ELSE {b} END")
-        }
-        Expr::Aggregate(aggregate, a) => format!("{}({})", aggregate_name(*aggregate), expr(a)),
-    }
+fn place(place: &Place) -> String {
+    format!("{}.c{}", item(usize::from(place.item)), place.column)
 }
 
 fn aggregate_name(aggregate: Aggregate) -> &'static str {
@@ -177,11 +230,6 @@ fn aggregate_name(aggregate: Aggregate) -> &'static str {
         Aggregate::Min => "MIN",
         Aggregate::Max => "MAX",
     }
-}
-
-/// An operand, in parentheses if it is one of those that need them there.
-fn operand(it: &Expr, needed: fn(&Expr) -> bool) -> String {
-    parenthesised(expr(it), needed(it))
 }
 
 fn parenthesised(text: String, needed: bool) -> String {
@@ -200,24 +248,6 @@ fn is_operation(it: &Expr) -> bool {
     is_sum(it) || matches!(it, Expr::Product(..))
 }
 
-/// A condition.
-pub fn cond(it: &Cond) -> String {
-    match it {
-        Cond::True => "TRUE".to_owned(),
-        Cond::Equal(a, b) => format!("{} = {}", expr(a), expr(b)),
-        Cond::Less(a, b) => format!("{} < {}", expr(a), expr(b)),
-        Cond::LessOrEqual(a, b) => format!("{} <= {}", expr(a), expr(b)),
-        Cond::Not(a) => format!("NOT {}", part(a, is_not_simple)),
-        Cond::And(a, b) => format!("{} AND {}", part(a, is_or), part(b, is_connective)),
-        Cond::Or(a, b) => format!("{} OR {}", cond(a), part(b, is_or)),
-    }
-}
-
-/// A part of a condition, in parentheses if it is one of those that need them there.
-fn part(it: &Cond, needed: fn(&Cond) -> bool) -> String {
-    parenthesised(cond(it), needed(it))
-}
-
 fn is_or(it: &Cond) -> bool {
     matches!(it, Cond::Or(..))
 }
@@ -228,5 +258,5 @@ fn is_connective(it: &Cond) -> bool {
 
 /// Below `NOT`, a comparison has parentheses for the reader's sake.
 fn is_not_simple(it: &Cond) -> bool {
-    !matches!(it, Cond::True | Cond::Not(..))
+    !matches!(it, Cond::True | Cond::Not(..) | Cond::Exists(..))
 }

@@ -8,7 +8,7 @@ use reference::gen;
 use reference::write;
 
 /// The accepted files of M1 to M12, and others with every kind of frame and token.
-const EXAMPLES: [&[&str]; 19] = [
+const EXAMPLES: [&[&str]; 21] = [
     &["01 01 01 00 0000 000c", "03 01 00 01 12 000008 010000 010000", "03 01 01 01 12 000005 010000 010000", "07 02 00"],
     &["01 01 01 00 0000 000c", "03 01 00 01 12 000008 010000 010000", "03 01 01 01 12 000005 010000 010000", "07 02 01"],
     &["01 01 01 00 0000 0000", "03 01 00 01 10 05000a 00fff1", "07 01 00"],
@@ -32,6 +32,10 @@ const EXAMPLES: [&[&str]; 19] = [
     &["01 01 01 00 0000 0003", "03 01 00 02 10 03 010000 03 00fffe 03 000001 00ffff 04 02 010000 000001 04 000002 04 010000 010000", "07 01 00"],
     // and, or to the right and to the left
     &["01 01 01 00 0000 0003", "03 01 00 01 16 16 10 15 10 10 16 10 15 15 16 10 10 10 15 10 14 14 10 010000", "07 01 00"],
+    // exists over a table and a view, side by side, and in the choice of an aggregate view
+    &["01 02 02 00 0000 0001 0000 0001", "03 02 00 00 01 15 17 00 11 010200 010101 14 17 00 17 00 13 010300 010201 010000", "04 01 01 01 02 11 06 17 01 10 010000 000001 000001 0000 10 010000 0700 000001", "07 02 01"],
+    // six open items
+    &["01 01 01 00 0000 0001", "03 03 00 00 00 01 17 00 17 00 17 00 15 11 010500 010000 16 12 010400 010300 10 010200", "07 01 00"],
 ];
 
 #[test]
@@ -67,10 +71,13 @@ fn examples() {
 
 #[test]
 fn ten_thousand_random_files() {
+    let mut exists = 0;
     for seed in 0..10_000 {
         let rules = write(&gen::file(seed));
-        round_trip(&rules, &format!("seed {seed}"));
+        let readable = round_trip(&rules, &format!("seed {seed}"));
+        exists += usize::from(readable.contains("EXISTS"));
     }
+    assert!(exists > 1_000, "{exists}");
 }
 
 #[test]

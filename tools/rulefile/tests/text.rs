@@ -60,6 +60,102 @@ fn left_out_conditions_are_true() {
     assert!(said("SELECT 1 FROM t0 a GROUP BY ()").contains("\n04"));
 }
 
+/// Any names, outer ones inside, and a name again once it is closed.
+#[test]
+fn exists() {
+    let readable = "SELECT p.c0 FROM t0 p\n\
+        WHERE exists(from t0 as q where Q.c1 = p.c0 AND NOT EXISTS (FROM t0 r))\n\
+        OR EXISTS (FROM t0 q WHERE CASE WHEN EXISTS (FROM t0 r) THEN 1 ELSE q.c0 END = 1)";
+    let rules = frames(&[
+        "01 02 02 00 0000 0003 0000 0003",
+        "03 01 00 01 16 17 00 15 11 010101 010000 14 17 00 10 \
+         17 00 11 06 17 00 10 000001 010100 000001 010000",
+        "07 01 00",
+    ]);
+    assert_eq!(assemble(&with_view(readable)), rules);
+    round_trip(rules.as_bytes(), "exists");
+}
+
+/// A view that opens so many from items, three of them in its from list.
+fn opened(items: usize) -> String {
+    let names = ["d", "e", "f", "g"].into_iter().take(items - 3);
+    let opened: String = names
+        .map(|name| format!("EXISTS (FROM t0 {name} WHERE "))
+        .collect();
+    let closed = ")".repeat(items - 3);
+    format!("SELECT a.c0 FROM t0 a, t0 b, t0 c WHERE {opened}a.c0 = c.c1{closed}")
+}
+
+#[test]
+fn six_from_items() {
+    let rules = assemble(&with_view(&opened(6)));
+    assert!(rules.contains("\n03030000000117001700170011010000010201010000\n"));
+    assert_eq!(
+        fault(&with_view(&opened(7))),
+        "line 2: there are more than 6 from items with those of EXISTS"
+    );
+}
+
+/// Where conditions, and what is wrong with each.
+const FAULTS_OF_EXISTS: [(&str, &str); 14] = [
+    ("EXISTS (FROM t0 a)", "two from items named `a`"),
+    (
+        "EXISTS (FROM t0 b WHERE EXISTS (FROM t0 b))",
+        "two from items named `b`",
+    ),
+    (
+        "EXISTS (FROM t0 b) AND b.c0 = 1",
+        "no from item is named `b` here",
+    ),
+    (
+        "EXISTS (FROM t0 b WHERE c.c0 = 1)",
+        "no from item is named `c` here",
+    ),
+    (
+        "EXISTS (FROM t0 b WHERE b.c2 = 1)",
+        "no column c2 there: its last is c1",
+    ),
+    (
+        "EXISTS (FROM v1 b)",
+        "no relation v1 stands before this statement",
+    ),
+    (
+        "EXISTS (FROM v0 b)",
+        "no relation v0 stands before this statement",
+    ),
+    (
+        "EXISTS (SELECT 1 FROM t0 b)",
+        "FROM is due, but there is `SELECT`",
+    ),
+    ("EXISTS t0 b", "`(` is due, but there is `t0`"),
+    (
+        "EXISTS (FROM t0)",
+        "a name such as a for the from item is due, but there is `)`",
+    ),
+    (
+        "EXISTS (FROM t0 exists)",
+        "a name such as a for the from item is due, but there is `exists`",
+    ),
+    ("EXISTS (FROM t0 b, t0 c)", "`)` is due, but there is `,`"),
+    (
+        "EXISTS (FROM t0 b WHERE b.c0)",
+        "an expression stands where a condition is due",
+    ),
+    (
+        "EXISTS (FROM t0 b) = 1",
+        "a condition stands where an expression is due",
+    ),
+];
+
+#[test]
+fn faults_of_exists() {
+    for (condition, expected) in FAULTS_OF_EXISTS {
+        let view = format!("SELECT a.c0 FROM t0 a WHERE {condition}");
+        let said = fault(&with_view(&view));
+        assert_eq!(said, format!("line 2: {expected}"), "{condition}");
+    }
+}
+
 #[test]
 fn faults_of_views() {
     let said = |definition: &str| fault(&with_view(definition));
@@ -80,7 +176,7 @@ fn faults_of_views() {
             "SELECT a.c0 FROM t0 a WHERE 1 < 2 < 3",
             "`;` is due, but there is `<`",
         ),
-        ("SELECT b.c0 FROM t0 a", "FROM has no item named `b`"),
+        ("SELECT b.c0 FROM t0 a", "no from item is named `b` here"),
         (
             "SELECT a.c2 FROM t0 a",
             "no column c2 there: its last is c1",
@@ -99,6 +195,16 @@ fn faults_of_views() {
             "a table or view such as t0 or v1 is due, but there is `t00`",
         ),
         ("SELECT a.c0", "SELECT without FROM"),
+        ("SELECT EXISTS (FROM t0 b)", "SELECT without FROM"),
+        ("SELECT EXISTS FROM t0 a", "`(` is due, but there is `FROM`"),
+        (
+            "SELECT EXISTS (FROM t0 b) FROM t0 a",
+            "a condition stands where an expression is due",
+        ),
+        (
+            "SELECT b.c0 FROM t0 a WHERE EXISTS (FROM t0 b)",
+            "no from item is named `b` here",
+        ),
         (
             "SELECT a.c0 a.c1 FROM t0 a",
             "FROM is due, but there is `a`",
@@ -226,7 +332,9 @@ fn endless_trees() {
     let long = format!("SELECT 1{} FROM t0 a", " + 1".repeat(many));
     let nots = format!("SELECT 1 FROM t0 a WHERE {} TRUE", "NOT ".repeat(many));
     let rounds = format!("SELECT {} FROM t0 a", "ROUND(".repeat(many));
-    for definition in [nested, long, nots, rounds] {
+    let beside = "EXISTS (FROM t0 b) AND ".repeat(many);
+    let beside = format!("SELECT 1 FROM t0 a WHERE {beside}TRUE");
+    for definition in [nested, long, nots, rounds, beside] {
         let said = fault(&with_view(&definition));
         assert_eq!(
             said,
@@ -261,6 +369,23 @@ fn refused_frames() {
     );
 }
 
+/// An exists is read everywhere; its place is left to the reader of frames.
+#[test]
+fn exists_elsewhere_than_in_where() {
+    let exists = "EXISTS (FROM t0 b WHERE b.c0 = 1)";
+    let choice = format!("CASE WHEN {exists} THEN 1 ELSE 2 END");
+    let definitions = [
+        format!("SELECT {choice} FROM t0 a"),
+        format!("SELECT COUNT({choice}) FROM t0 a GROUP BY ()"),
+        format!("SELECT COUNT(1) FROM t0 a GROUP BY () HAVING {exists}"),
+    ];
+    for definition in definitions {
+        let said = refusal(&with_view(&definition));
+        let sentences = both(Refusal { number: 7, line: 2 });
+        assert_eq!(said, format!("    VIEW v1 AS {definition};\n{sentences}"));
+    }
+}
+
 /// The line is that of the statement in the text, not that of its frame.
 #[test]
 fn lines_of_refused_statements() {
@@ -293,7 +418,7 @@ fn readme() {
     let refusal = rulefile::explain(spoilt.as_bytes()).expect_err("refused");
     assert!(plain.contains(&refusal));
     let begin = plain.find("TABLE t0 ROWS 2").expect("a text");
-    let goal = "GOAL NEGATIVE v5;\n";
+    let goal = "GOAL NEGATIVE v6;\n";
     let end = plain.find(goal).expect("its end") + goal.len();
     let assembled = rulefile::assemble(&plain.as_bytes()[begin..end]).expect("frames");
     assert_eq!(assembled.refusal, None);

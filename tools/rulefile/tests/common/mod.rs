@@ -44,8 +44,8 @@ pub fn fault(readable: &str) -> String {
     }
 }
 
-/// Asserts that the readable text of a rule file gives its bytes back, and no refusal.
-pub fn round_trip(rules: &[u8], name: &str) {
+/// The readable text of a rule file, which gives its bytes back, and no refusal.
+pub fn round_trip(rules: &[u8], name: &str) -> String {
     let readable = rulefile::explain(rules).unwrap_or_else(|refusal| panic!("{name}: {refusal}"));
     match rulefile::assemble(readable.as_bytes()) {
         Ok(back) => {
@@ -54,4 +54,5 @@ pub fn round_trip(rules: &[u8], name: &str) {
         }
         Err(fault) => panic!("{name}: {fault}\n{readable}"),
     }
+    readable
 }
