@@ -24,8 +24,9 @@ first-of-requires c κs = search needs
 
 returns : tie.Need-returns
 unfolding countedSelect
-returns c = count-then (c .before .before .before .before .before .before .args .frame .now) (c .before .before .before .before .before .before .args .at) (within 1 8) (conditionSelect (openOf (c .before .before .before .before .before .before .args .shape .now) (c .before .before .before .before .before .before .args .setting))) (c .before .before .before .byte-at .ensures)
-    (c .before .before .between .ensures) (c .before .condition-select .ensures) (c .first-of .ensures)
+returns c = let a = c .before .before .before .before .before .before .args in
+    count-then (a .frame .now) (a .at) (within 1 8) (conditionSelect (openOf (a .shape .now) (a .setting)))
+    (c .before .before .before .byte-at .ensures) (c .before .before .between .ensures) (c .before .condition-select .ensures) (c .first-of .ensures)
 
 pub counted-select-spec : {M : Type 1} → statement M
 counted-select-spec =

@@ -24,7 +24,8 @@ first-of-requires c κs = search needs
 
 returns : tie.Need-returns
 unfolding countedWhere
-returns c = count-then (c .before .before .before .before .before .before .args .frame .now) (c .before .before .before .before .before .before .args .at) (within 1 8) (whereGroups (openOf (c .before .before .before .before .before .before .args .shape .now) (c .before .before .before .before .before .before .args .setting)) (c .before .before .before .before .before .before .args .g))
+returns c = let a = c .before .before .before .before .before .before .args in
+    count-then (a .frame .now) (a .at) (within 1 8) (whereGroups (openOf (a .shape .now) (a .setting)) (a .g))
     (c .before .before .before .byte-at .ensures) (c .before .before .between .ensures) (c .before .where-groups .ensures) (c .first-of .ensures)
 
 pub counted-where-spec : {M : Type 1} → statement M

@@ -28,11 +28,13 @@ enum-known-number-2 : tie.Need-enum-known-number-2
 enum-known-number-2 c = search needs
 
 returns : tie.Need-returns
-returns c = groups-next _ (openOf (c .before .before .before .before .before .before .before .before .before .before .before .before .args .shape .now) (c .before .before .before .before .before .before .before .before .before .before .before .before .args .setting)) _ (c .before .before .before .before .before .before .before .before .condition .ensures) _ _
+returns c = let a = c .before .before .before .before .before .before .before .before .before .before .before .before .args in
+    groups-next _ (openOf (a .shape .now) (a .setting)) _ (c .before .before .before .before .before .before .before .before .condition .ensures) _ _
     (ap skipTold (c .before .before .before .before .before .before .next .given .1)) (c .before .before .before .before .places .ensures) (ap skipTold (c .before .before .having .given .1)) (c .condition-select .ensures)
 
 returns-2 : tie.Need-returns-2
-returns-2 c = groups-stop _ (openOf (c .before .before .before .before .before .before .before .before .before .before .before .args .shape .now) (c .before .before .before .before .before .before .before .before .before .before .before .args .setting)) _ (c .before .before .before .before .before .before .before .condition .ensures) _ _
+returns-2 c = let a = c .before .before .before .before .before .before .before .before .before .before .before .args in
+    groups-stop _ (openOf (a .shape .now) (a .setting)) _ (c .before .before .before .before .before .before .before .condition .ensures) _ _
     (ap skipTold (c .before .before .before .before .before .next .given .1)) (c .before .before .before .places .ensures) (ap skipTold (c .before .number .given .1))
 
 returns-3 : tie.Need-returns-3
