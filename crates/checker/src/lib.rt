@@ -1,4 +1,5 @@
 // From frames to a checked file.
+#![tactic(auto)]
 pub mod entries;
 pub mod fields;
 pub mod fixed;

@@ -1,4 +1,5 @@
 // A look at a rule file.
+#![tactic(auto)]
 pub mod buffers;
 pub mod cells;
 pub mod moves;

@@ -1,4 +1,5 @@
 // The program's output for a text.
+#![tactic(auto)]
 ghost use Rattle.std.specs.Prelude.{◌≡◌, ◌+◌, ◌*◌, ◌≤◌, length};
 ghost use Rattle.language.specs.OutputOf.{case_frame, refusal_frame, Printed};
 ghost use Rattle.report.specs.Lines.{CellsPut, TableLined, TablesLined, CaseLined};

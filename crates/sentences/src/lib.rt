@@ -1,4 +1,5 @@
 // A refusal as a sentence in English or in French.
+#![tactic(auto)]
 mod words;
 
 ghost use Rattle.std.specs.Prelude.{◌≡◌, ◌&&◌, cond, ◌++◌, ◌∷◌, [], ◌+◌, ◌≤◌, ◌<◌, ltb, length, get_or};

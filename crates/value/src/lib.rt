@@ -1,4 +1,6 @@
 // Values and truths, and all signed machine arithmetic. No other crate looks inside a value.
+#![tactic(auto)]
+
 pub mod accumulator;
 pub mod boolean;
 pub mod datum;

@@ -1,4 +1,5 @@
 // The rows of views, worked out on frame bytes.
+#![tactic(auto)]
 pub mod combination;
 pub mod ends;
 pub mod evaluation;
