@@ -1,5 +1,6 @@
 // The rule on aggregates and the ranges of expressions, on frame bytes.
 #![tactic(auto)]
+
 ghost use Rattle.std.specs.Prelude.{◌≡◌, true, not, ◌&&◌, ◌+◌, ◌*◌, ◌≤◌, length, get_or};
 ghost use Rattle.value.specs.Integer.{bytes_z};
 ghost use Rattle.value.specs.Value.{operation_at, aggregate_at};

@@ -1,5 +1,6 @@
 // Whether a database that stands in the work area is a case of a checked file.
 #![tactic(auto)]
+
 pub mod judgement;
 pub mod needs;
 pub mod relation;

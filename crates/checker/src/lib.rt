@@ -1,5 +1,6 @@
 // From frames to a checked file.
 #![tactic(auto)]
+
 pub mod entries;
 pub mod fields;
 pub mod fixed;

@@ -1,5 +1,6 @@
 // The proved functions as plain numbers, for C and Rust.
 #![tactic(auto)]
+
 ghost use Rattle.std.specs.Prelude.{◌≡◌};
 ghost use Rattle.language.specs.FileOf.{file_of};
 ghost use Rattle.look.specs.Looks.{answer_of};

@@ -1,5 +1,6 @@
 // The program: a rule file on standard input, its first case, "no case" or its refusal on standard output.
 #![tactic(auto)]
+
 ghost use Rattle.std.specs.Prelude.{◌≡◌, ◌≤◌, length};
 ghost use Rattle.language.specs.OutputOf.{input_room, output_of};
 ghost use Rattle.input.specs.Input.{Reads};

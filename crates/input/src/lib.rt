@@ -1,5 +1,6 @@
 // Standard input into a lent buffer: whole, cut at the end of the buffer, or failed.
 #![tactic(auto)]
+
 ghost use Rattle.std.specs.Prelude.{◌≡◌, length};
 ghost use Rattle.input.specs.Input.{input_of, Reads};
 

@@ -1,5 +1,6 @@
 // A look at a rule file.
 #![tactic(auto)]
+
 pub mod buffers;
 pub mod cells;
 pub mod moves;

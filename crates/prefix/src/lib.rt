@@ -1,5 +1,6 @@
 // Where each field of a frame ends, and each expression and condition in prefix form; or the number of its refusal.
 #![tactic(auto)]
+
 ghost use Rattle.std.specs.Prelude.{◌≡◌, cond, ◌&&◌, ◌+◌, ◌*◌, ◌≤◌, ltb, leb, length, get_or};
 ghost use Rattle.language.specs.Reading.{byte_if, two_bytes, step as step_r, place as place_r, existing, read_e, read_c};
 ghost use Rattle.catalog.specs.Items.{relations_in, widths_in};

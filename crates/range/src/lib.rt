@@ -1,5 +1,6 @@
 // Ranges: what the values of an expression can be, worked out from the file alone.
 #![tactic(auto)]
+
 ghost use Rattle.std.specs.Prelude.{◌≡◌};
 ghost use Rattle.value.specs.Value.{Operation, operation_at, aggregate_at, apply_z};
 ghost use Rattle.range.specs.Ranges.{constant_of, range_from, hull_of, operated_of, rounded_of, scaled_of, count_of, aggregated_of, fitted, ranged_told, Results};

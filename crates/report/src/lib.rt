@@ -1,5 +1,6 @@
 // The program's output for a text.
 #![tactic(auto)]
+
 ghost use Rattle.std.specs.Prelude.{◌≡◌, ◌+◌, ◌*◌, ◌≤◌, length};
 ghost use Rattle.language.specs.OutputOf.{case_frame, refusal_frame, Printed};
 ghost use Rattle.report.specs.Lines.{CellsPut, TableLined, TablesLined, CaseLined};

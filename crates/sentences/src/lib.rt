@@ -1,5 +1,6 @@
 // A refusal as a sentence in English or in French.
 #![tactic(auto)]
+
 mod words;
 
 ghost use Rattle.std.specs.Prelude.{◌≡◌, ◌&&◌, cond, ◌++◌, ◌∷◌, [], ◌+◌, ◌≤◌, ◌<◌, ltb, length, get_or};

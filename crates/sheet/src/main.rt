@@ -1,5 +1,6 @@
 // The second program: a rule file on standard input, its refusal in English and in French on standard output; of an accepted file nothing.
 #![tactic(auto)]
+
 ghost use Rattle.std.specs.Prelude.{◌≡◌, ◌≤◌, length};
 ghost use Rattle.language.specs.OutputOf.{input_room};
 ghost use Rattle.input.specs.Input.{Reads};

@@ -1,5 +1,6 @@
 // Numbers of a slice, at any place.
 #![tactic(auto)]
+
 ghost use Rattle.std.specs.Prelude.{◌≡◌, pos, get_or, set};
 
 // The byte at a place; 0 past the end.

@@ -1,5 +1,6 @@
 // Relations in the lent work area. Only this crate knows how their rows lie.
 #![tactic(auto)]
+
 ghost use Rattle.std.specs.Prelude.{◌≡◌, ℕ, ◌≤◌, ◌<◌};
 ghost use Rattle.value.specs.Machine.{value_of};
 ghost use Rattle.meaning.specs.Evaluation.{missing};

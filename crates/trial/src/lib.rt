@@ -1,12 +1,8 @@
 // For tests: one database of a text, evaluated.
-<<<<<<< Updated upstream
+#![tactic(auto)]
+
 ghost use Rattle.language.specs.FileOf.{file_of};
 ghost use Rattle.catalog.specs.FileIn.{source_from};
-=======
-#![tactic(auto)]
-ghost use Rattle.language.specs.FileOf.{fileOf};
-ghost use Rattle.catalog.specs.FileIn.{sourceFrom};
->>>>>>> Stashed changes
 ghost use Rattle.trial.specs.Tried.{EveryRelation, Tried};
 
 use cases::{judgement, needs};

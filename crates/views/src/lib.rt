@@ -1,5 +1,6 @@
 // The rows of views, worked out on frame bytes.
 #![tactic(auto)]
+
 pub mod combination;
 pub mod ends;
 pub mod evaluation;
