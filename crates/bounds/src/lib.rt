@@ -17,7 +17,7 @@ use value::integer;
 
 // Where an expression stands: the row bound, and whether it is in having or select of an aggregate view, whose grouping columns
 // are `count` pairs of bytes (from item, column) at `places` of the frame, or in a where condition.
-#[derive(Drop)]
+#[derive(Clone, Copy)]
 pub struct Rule {
     pub bound: u32,
     pub grouped: bool,
@@ -27,7 +27,7 @@ pub struct Rule {
 }
 
 // Of an expression: where it ends, whether the rule on 07 is kept, and its range if it and every range inside it fit 32 bits.
-#[derive(Drop)]
+#[derive(Clone, Copy)]
 pub struct Sized {
     pub next: usize,
     pub allowed: bool,
@@ -35,7 +35,7 @@ pub struct Sized {
 }
 
 // Of a condition: where it ends, whether the rule on 07 is kept, and whether every range inside it fits 32 bits.
-#[derive(Drop)]
+#[derive(Clone, Copy)]
 pub struct Tested {
     pub next: usize,
     pub allowed: bool,
@@ -43,7 +43,7 @@ pub struct Tested {
 }
 
 // Of two expressions, one after the other.
-#[derive(Drop)]
+#[derive(Clone, Copy)]
 struct TwoSized {
     next: usize,
     allowed: bool,

@@ -16,7 +16,7 @@ const PAIRS: usize = 4;
 const GROUPED: u8 = 4;
 
 // Of a table: how many rows and columns it has, and its key mask.
-#[derive(Drop)]
+#[derive(Clone, Copy)]
 pub struct TableParts {
     pub rows: u8,
     pub width: u8,
@@ -24,7 +24,7 @@ pub struct TableParts {
 }
 
 // Of a foreign key: its tables, how many pairs of columns it has, and where these begin.
-#[derive(Drop)]
+#[derive(Clone, Copy)]
 pub struct KeyParts {
     pub child: u8,
     pub parent: u8,
@@ -33,7 +33,7 @@ pub struct KeyParts {
 }
 
 // Of a set view: its operands.
-#[derive(Drop)]
+#[derive(Clone, Copy)]
 pub struct SetParts {
     pub left: u8,
     pub right: u8,
@@ -41,7 +41,7 @@ pub struct SetParts {
 
 // Of a basic or an aggregate view: how many grouping columns and select expressions it has, and where its where condition begins. Behind
 // that stand the grouping columns, having and the select expressions.
-#[derive(Drop)]
+#[derive(Clone, Copy)]
 pub struct Parts {
     pub groups: u8,
     pub width: u8,

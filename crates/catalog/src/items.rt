@@ -7,7 +7,7 @@ use crate::{arrays, frames};
 use slice::byte_at;
 
 // Of the six places the first `number` count.
-#[derive(Drop)]
+#[derive(Clone, Copy)]
 pub struct Items {
     pub relations: [u8; 6],
     pub number: u8,

@@ -4,7 +4,7 @@ ghost use Rattle.catalog.specs.FileIn.{SomeRow, TablesCounted};
 use super::arrays;
 
 // Counts; `foreign` is the place of the first foreign key's frame, and `filled` says that some table has a row.
-#[derive(Drop)]
+#[derive(Clone, Copy)]
 pub struct Outline {
     pub tables: u8,
     pub keys: u8,

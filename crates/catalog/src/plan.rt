@@ -2,7 +2,7 @@
 use super::outline::Outline;
 use text;
 
-#[derive(Drop)]
+#[derive(Clone, Copy)]
 pub struct Goal {
     pub view: u8,
     pub negative: bool,

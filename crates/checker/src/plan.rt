@@ -11,7 +11,7 @@ use catalog::{arrays, frames, outline};
 use text;
 
 // How far the frames are taken.
-#[derive(Drop)]
+#[derive(Clone, Copy)]
 struct Walked {
     number: u8,
     line: u16,

@@ -14,7 +14,7 @@ const VIEWS: u8 = 3;
 
 const ENDED: u8 = 5;
 
-#[derive(Drop)]
+#[derive(Clone, Copy)]
 pub struct Progress {
     pub tables: u8,
     pub relations: u8,

@@ -8,7 +8,7 @@ use super::state::Progress;
 use super::{entries, fixed, state, view_bytes, view_rules};
 use catalog::frames;
 
-#[derive(Drop)]
+#[derive(Clone, Copy)]
 pub struct Step {
     pub fault: u8,
     pub state: Progress,

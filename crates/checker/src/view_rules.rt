@@ -13,7 +13,7 @@ use catalog::{arrays, frames};
 use range::Ranged;
 
 // The fault of a view's frame that its bytes leave open, 0 for none; its row bound and its number of columns.
-#[derive(Drop)]
+#[derive(Clone, Copy)]
 pub struct Ruled {
     pub fault: u8,
     pub bound: u8,
@@ -21,14 +21,14 @@ pub struct Ruled {
 }
 
 // The select expressions of a view: how many there are, and the rule on them.
-#[derive(Drop)]
+#[derive(Clone, Copy)]
 struct SelectList {
     count: u8,
     rule: Rule,
 }
 
 // What a view's frame begins with: its from items, its counts, its row bound, and what its where tells.
-#[derive(Drop)]
+#[derive(Clone, Copy)]
 struct Opening {
     items: Items,
     parts: Parts,
@@ -37,7 +37,7 @@ struct Opening {
 }
 
 // Of the select expressions: whether the rule on 07 is kept, and whether every range inside them fits 32 bits.
-#[derive(Drop)]
+#[derive(Clone, Copy)]
 struct Selected {
     allowed: bool,
     within: bool,

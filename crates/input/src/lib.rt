@@ -10,7 +10,7 @@ pub const ROOM: usize = 8193;
 const STDIN: i32 = 0;
 
 // How far reading has come: more may follow behind so many bytes, the input ended behind so many, or a read failed.
-#[derive(Drop)]
+#[derive(Clone, Copy)]
 pub enum Input {
     More(usize),
     End(usize),

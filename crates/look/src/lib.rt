@@ -16,7 +16,7 @@ use scan::Span;
 pub const AREA: usize = 9216;
 
 // "case k", "no case", "spent" with next, or a refusal with its line.
-#[derive(Drop)]
+#[derive(Clone, Copy)]
 pub enum Answer {
     Case(u64),
     NoCase,

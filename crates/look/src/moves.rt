@@ -9,14 +9,14 @@ use store::Row;
 use value::domain::Domain;
 
 // What is left of two candidate numbers before the digits that are done.
-#[derive(Drop)]
+#[derive(Clone, Copy)]
 struct Quotients {
     old: u64,
     new: u64,
 }
 
 // A row by value, and what is left of a candidate number before its digits.
-#[derive(Drop)]
+#[derive(Clone, Copy)]
 struct TakenRow {
     row: Row,
     left: u64,

@@ -11,7 +11,7 @@ use catalog::outline::Outline;
 use catalog::plan::Goal;
 
 // The candidates from `start` on and before `end`, of a file with this outline, goal and number of cells.
-#[derive(Drop)]
+#[derive(Clone, Copy)]
 pub struct Span {
     pub outline: Outline,
     pub goal: Goal,

@@ -11,14 +11,14 @@ use catalog::items::{Items, width};
 use slice::byte_at;
 
 // Where an expression stands: the from items that are open, and how many relations are before the view.
-#[derive(Drop)]
+#[derive(Clone, Copy)]
 pub struct Setting {
     pub items: Items,
     pub earlier: u8,
 }
 
 // Where the next bytes start, or the number of a refusal.
-#[derive(Drop)]
+#[derive(Clone, Copy)]
 pub enum Skip {
     Next(usize),
     Refused(u8),

@@ -8,21 +8,21 @@ ghost use Rattle.range.specs.Ranges.{constant_of, range_from, hull_of, operated_
 use value::integer;
 
 // The whole numbers from lo to hi.
-#[derive(Drop)]
+#[derive(Clone, Copy)]
 pub struct Range {
     pub lo: i32,
     pub hi: i32,
 }
 
 // A range that 32 bits hold, or one that they do not.
-#[derive(Drop)]
+#[derive(Clone, Copy)]
 pub enum Ranged {
     Within(Range),
     Beyond,
 }
 
 // A range of 64 bits, on the way to one of 32.
-#[derive(Drop)]
+#[derive(Clone, Copy)]
 struct Wide {
     lo: i64,
     hi: i64,

@@ -21,7 +21,7 @@ const STRETCH: usize = ROWS * COLUMNS + 64;
 const AREA: usize = RELATIONS * STRETCH;
 
 // A row by value.
-#[derive(Drop)]
+#[derive(Clone, Copy)]
 pub struct Row {
     pub values: [Datum; 8],
 }

@@ -20,7 +20,7 @@ pub struct Frames {
 }
 
 // The byte of two digits, or none.
-#[derive(Drop)]
+#[derive(Clone, Copy)]
 enum HexPair {
     Byte(u8),
     Wrong,

@@ -6,7 +6,7 @@ ghost use Rattle.value.specs.Machine.{value_of, tally_of};
 use super::datum::Datum;
 use super::integer;
 
-#[derive(Drop)]
+#[derive(Clone, Copy)]
 pub enum Accumulator {
     Nothing,
     Total(i32),

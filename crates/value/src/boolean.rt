@@ -4,7 +4,7 @@ ghost use Rattle.value.specs.Bag.{tick};
 ghost use Rattle.value.specs.Value.{connective_at, sure as sure_t, negate, connect, holds as holds_t};
 ghost use Rattle.value.specs.Machine.{truth_of};
 
-#[derive(Drop)]
+#[derive(Clone, Copy)]
 pub enum Boolean {
     True,
     False,

@@ -7,7 +7,7 @@ ghost use Rattle.value.specs.Machine.{value_of, truth_of};
 use super::boolean::Boolean;
 use super::integer;
 
-#[derive(Drop)]
+#[derive(Clone, Copy)]
 pub struct Datum {
     n: i32,
 }

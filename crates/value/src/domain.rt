@@ -6,7 +6,7 @@ ghost use Rattle.value.specs.Machine.{value_of, column_of};
 use super::datum::Datum;
 use super::integer;
 
-#[derive(Drop)]
+#[derive(Clone, Copy)]
 pub struct Domain {
     pub lo: i16,
     pub hi: i16,

@@ -5,7 +5,7 @@ ghost use Rattle.value.specs.Integer.{narrow32, narrow16 as narrow16_z, equal_z,
 ghost use Rattle.value.specs.Value.{operation_at, comparison_at, aggregate_at, apply_z, compare_z, combine};
 
 // The two bytes of a 16-bit number, high byte first.
-#[derive(Drop)]
+#[derive(Clone, Copy)]
 pub struct Bytes {
     pub high: u8,
     pub low: u8,
