@@ -56,4 +56,4 @@ module _ {A : Type 0} {E : Test A} where
   fold-bag f c z {R = []} {S} h = rw (nil-only E h)
   fold-bag f c z {R = x ∷ R} {S} h =
       let (in-S, rest) = same-tail E h in
-      rw (pulled E f c z x S in-S) (ap (f x) (fold-bag f c z rest))
+      rw (pulled E f c z x S in-S) (ap (f x) (fold-bag f c z {R = R} rest))

@@ -1,0 +1,6 @@
+-- `bounds::column` meets its contract. Assumes nothing.
+use mathlib.Core.Path.{◌∙◌}
+use Rattle.bounds.proofs.column.Goals as goal
+
+pub returns : goal.returns
+returns c = c.sizing.ensures ∙ rw (c.permitted-allowed.ensures, c.range_of.ensures, c.byte_at-item.ensures, c.byte_at-number.ensures)

@@ -1,0 +1,28 @@
+-- `cases::validity::foreign_key_holds` meets its contract. Assumes nothing.
+use mathlib.Core.Path.{sym, ◌∙◌}
+use mathlib.Core.Bool.{true}
+use Prim.Native.Nat.{◌-◌}
+use native.Mathlib.Omega.{arith}
+use borrow.Author.Tests.{not-false, not-true}
+use Rattle.cases.proofs.RowTests.{all-below-none, all-below-next, all-below-whole, all-below-stops}
+use Rattle.cases.proofs.ForeignLaws.{key-is}
+use Rattle.cases.proofs.validity.foreign_key_holds.Goals as goal
+
+pub loop-i-init : goal.loop-i-init
+loop-i-init c = (omega arith, all-below-none _)
+
+pub returns-then-not-has_parent : goal.returns-then-not-has_parent
+returns-then-not-has_parent c = key-is _ _ _ c.key_parts-key.ensures c.byte_at-children.ensures
+    c.byte_at-parents.ensures (all-below-stops _ _ _ c.loop-i-test.true (sym c.has_parent.ensures ∙ not-true _ c.if-not-has_parent.true))
+
+pub loop-i-smaller : goal.loop-i-smaller
+loop-i-smaller c = omega arith
+
+pub loop-i-preserved : goal.loop-i-preserved
+loop-i-preserved c =
+    (omega arith, all-below-next _ _ c.loop-i.invariant.1 (sym c.has_parent.ensures ∙ not-false _ c.if-not-has_parent.false))
+
+pub returns : goal.returns
+returns c =
+    key-is _ _ _ c.key_parts-key.ensures c.byte_at-children.ensures c.byte_at-parents.ensures
+    (all-below-whole _ _ _ (omega arith) c.loop-i.invariant.1)

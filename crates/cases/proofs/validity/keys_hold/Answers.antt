@@ -1,0 +1,31 @@
+-- `cases::validity::keys_hold` meets its contract. Assumes nothing.
+use mathlib.Core.Path.{sym, ◌∙◌}
+use mathlib.Core.Bool.{true}
+use Prim.Native.Nat.{◌-◌}
+use native.Mathlib.Omega.{arith}
+use borrow.Author.Tests.{not-false, not-true}
+use Rattle.cases.proofs.RowTests.{all-below-none, all-below-next, all-below-whole, all-below-stops}
+use Rattle.cases.proofs.KeyLaws.{key-there}
+use Rattle.cases.proofs.validity.keys_hold.Goals as goal
+
+pub loop-t-init : goal.loop-t-init
+loop-t-init c = (omega arith, all-below-none _)
+
+pub returns-then-not-key_holds : goal.returns-then-not-key_holds
+returns-then-not-key_holds c = sym (all-below-stops _ _ _ c.loop-t-test.true
+    (key-there _ _ _ _ c.byte_at-rows.ensures c.width_of-width.ensures c.mask_of-mask.ensures
+    c.key_holds.ensures ∙ not-true _ c.if-not-key_holds.true))
+
+pub loop-t-smaller : goal.loop-t-smaller
+loop-t-smaller c = omega arith
+
+pub loop-t-preserved : goal.loop-t-preserved
+loop-t-preserved c = (
+  omega arith,
+  all-below-next _ _ c.loop-t.invariant.1
+      (key-there _ _ _ _ c.byte_at-rows.ensures c.width_of-width.ensures c.mask_of-mask.ensures
+      c.key_holds.ensures ∙ not-false _ c.if-not-key_holds.false),
+)
+
+pub returns : goal.returns
+returns c = sym (all-below-whole _ _ _ (omega arith) c.loop-t.invariant.1)

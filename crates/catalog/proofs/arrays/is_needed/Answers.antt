@@ -1,0 +1,7 @@
+-- `catalog::arrays::is_needed` meets its contract. Assumes nothing.
+use mathlib.Core.Path.{ap}
+use lib.Dec.{eqb}
+use Rattle.catalog.proofs.arrays.is_needed.Goals as goal
+
+pub returns : goal.returns
+returns c = ap (λ n. eqb n 1) c.byte_at.ensures

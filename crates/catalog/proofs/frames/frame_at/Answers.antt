@@ -1,0 +1,8 @@
+-- `catalog::frames::frame_at` meets its contract. Assumes nothing.
+use mathlib.Core.Path.{◌∙◌}
+use Rattle.catalog.proofs.FrameLaws.{frame_is}
+use Rattle.catalog.proofs.frames.frame_at.Goals as goal
+
+pub returns : goal.returns
+returns c = c.part.ensures ∙ frame_is c.args.bytes.now c.args.at c.byte_at-size.result c.inside-before.result
+    c.byte_at-size.ensures c.inside-before.ensures

@@ -1,0 +1,7 @@
+-- `catalog::frames::part` meets its contract. Assumes nothing.
+use Rattle.catalog.proofs.FrameLaws.{part-is}
+use Rattle.catalog.proofs.frames.part.Goals as goal
+
+pub returns : goal.returns
+returns c = part-is c.args.bytes.now c.args.at c.args.n c.inside-from.result c.inside-to.result
+    c.inside-from.ensures c.inside-to.ensures

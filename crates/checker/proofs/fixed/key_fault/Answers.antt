@@ -1,0 +1,8 @@
+-- `checker::fixed::key_fault` meets its contract. Assumes nothing.
+use Rattle.checker.proofs.FixedAnswers.{key-answer}
+use Rattle.checker.proofs.fixed.key_fault.Goals as goal
+
+pub returns : goal.returns
+returns c = key-answer c.args.frame.now c.args.tables
+    c.args.shape.now c.byte_at-child.ensures c.byte_at-parent.ensures
+    c.byte_at-n.ensures c.key_head-head.ensures c.key_body-body.ensures c.first_of.ensures

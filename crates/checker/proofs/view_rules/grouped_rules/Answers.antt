@@ -1,0 +1,12 @@
+-- `checker::view_rules::grouped_rules` meets its contract. Assumes nothing.
+use Rattle.checker.proofs.ViewRuleLaws.{grouped-rules}
+use Rattle.checker.proofs.view_rules.grouped_rules.Goals as goal
+
+pub returns : goal.returns
+returns c = grouped-rules c.args.frame.now
+    c.args.r
+    c.args.shape.now
+    c.args.ends.now _ _
+    c.args.o c.inside-places.result
+    c.condition-h.result c.both.result
+    c.both.ensures c.inside-places.ensures.1 c.condition-h.ensures c.tail.ensures

@@ -1,0 +1,25 @@
+-- `look::buffers::show` meets its contract. Assumes nothing.
+use mathlib.Core.Path.{◌∙◌}
+use Prim.Native.Nat.{◌-◌}
+use native.Mathlib.Omega.{arith}
+use mir.Syntax.{w16}
+use Rattle.value.proofs.Fits.{back}
+use Rattle.look.proofs.BufferLaws.{showing-none, showing-more, showing-all}
+use Rattle.look.proofs.buffers.show.Goals as goal
+
+pub loop-j-init : goal.loop-j-init
+loop-j-init c = showing-none _ _ _ _
+
+pub loop-j-smaller : goal.loop-j-smaller
+loop-j-smaller c = omega arith
+
+pub loop-j-preserved : goal.loop-j-preserved
+loop-j-preserved c =
+    showing-more _ _ _ c.loop-j.invariant (omega arith) c.word_at-code.ensures
+    c.cell-v.ensures (back w16 _ c.shown.type_inv ∙ c.shown.ensures) c.put_short.ensures
+
+pub shape_of-instance : goal.shape_of-instance
+shape_of-instance c = c.loop-j.invariant.showing.length-kept
+
+pub returns : goal.returns
+returns c = showing-all c.loop-j.invariant (omega arith)

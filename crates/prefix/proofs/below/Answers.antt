@@ -1,0 +1,8 @@
+-- `prefix::below` meets its contract. Assumes nothing.
+use mathlib.Core.Path.{ap}
+use lib.Dec.{ltb}
+use Rattle.prefix.proofs.Fields.{if-tested}
+use Rattle.prefix.proofs.below.Goals as goal
+
+pub returns : goal.returns
+returns c = let a = c.args in if-tested _ _ a.number (λ b. ltb b a.n) (ap (λ b. ltb b a.n) c.byte_at.ensures) c.tested.ensures

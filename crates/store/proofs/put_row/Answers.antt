@@ -1,0 +1,33 @@
+-- `store::put_row` meets its contract. The loop has put the first c cells. Assumes nothing.
+use borrow.Author.Rules.{rules}
+use Prim.Native.Nat.{◌-◌}
+use mathlib.Core.Path.{◌≡◌, sym, ◌∙◌}
+use native.Mathlib.Omega.{arith}
+use lib.ListN.{length, length-map}
+use Rattle.store.specs.Strides
+use Rattle.store.specs.Rows.{put_cells}
+use Rattle.store.proofs.RowLaws.{put_next}
+use Rattle.store.proofs.CellLaws.{put-cell-length}
+use Rattle.store.proofs.put_row.Goals as goal
+
+pub loop-c-init : goal.loop-c-init
+unfolding Strides.put_cells
+loop-c-init c = search rules
+
+pub loop-c-preserved : goal.loop-c-preserved
+unfolding Strides.put_cells
+loop-c-preserved c =
+    let s = c.before.before.before.before.before.before.before in
+    let l = c.loop-c in
+    let m : length s.args.row.values ≡ 8 = sym (length-map s.args.row.values _) ∙ s.well-formed.1.1.1.0.1.1.0.1.0.1 in
+    let e = c.put_cell.ensures in (
+      search rules,
+      rw e (put-cell-length l.part 0 s.args.at l.c _ ∙ l.invariant.1),
+      put_next s.args.part.now l.part c.put_cell.new.0 s.args.at s.args.width l.c s.args.row _
+          (omega arith) (omega arith) l.invariant.2 e,
+    )
+
+pub returns : goal.returns
+returns c =
+    let e : c.loop-c.c ≡ c.args.width = omega arith in
+    rw e at c.loop-c.invariant.2

@@ -1,0 +1,15 @@
+-- `value::integer::multiply` meets its contract. Assumes nothing.
+use Rattle.value.proofs.Fits.{signed}
+use Rattle.value.proofs.integer.multiply.Goals as goal
+
+pub overflow_cast-result : goal.overflow_cast-result
+overflow_cast-result c = search signed
+
+pub overflow_cast-result-2 : goal.overflow_cast-result-2
+overflow_cast-result-2 c = search signed
+
+pub overflow_mul-result : goal.overflow_mul-result
+overflow_mul-result c = search signed
+
+pub returns : goal.returns
+returns c = search signed

@@ -1,0 +1,27 @@
+-- `views::sets::same_rows` meets its contract. Assumes nothing.
+use mathlib.Core.Path.{sym, ◌∙◌}
+use mathlib.Core.Bool.{true}
+use Prim.Native.Nat.{◌-◌}
+use native.Mathlib.Omega.{arith}
+use borrow.Author.Tests.{not-false, not-true}
+use Rattle.views.proofs.Intersecting.{alike-none, alike-more, alike-stops, alike-whole}
+use Rattle.views.proofs.sets.same_rows.Goals as goal
+
+pub loop-c-init : goal.loop-c-init
+loop-c-init c = (omega arith, alike-none _ _ _ _ _)
+
+pub returns-then-not-same : goal.returns-then-not-same
+returns-then-not-same c = alike-stops _ _ _ _ _ _ _ _ _ c.loop-c-test.true c.cell-x.ensures c.cell-y.ensures (sym c.same.ensures ∙ not-true _ c.if-not-same.true)
+
+pub loop-c-smaller : goal.loop-c-smaller
+loop-c-smaller c = omega arith
+
+pub loop-c-preserved : goal.loop-c-preserved
+loop-c-preserved c = (
+  omega arith,
+  alike-more _ _ _ _ _ _ _ _ c.loop-c.invariant.1 c.cell-x.ensures c.cell-y.ensures (sym
+      c.same.ensures ∙ not-false _ c.if-not-same.false),
+)
+
+pub returns : goal.returns
+returns c = alike-whole _ _ _ _ _ _ _ c.loop-c.invariant.0 (omega arith) c.loop-c.invariant.1
