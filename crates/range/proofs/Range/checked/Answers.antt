@@ -9,32 +9,26 @@ use Rattle.range.specs.Ranges.{ranged_told}
 use Rattle.range.proofs.Bits32.{ranged-within, ranged-low, ranged-high, ranged-told}
 use Rattle.range.proofs.Range.checked.Goals as goal
 
-low-in : (c : goal.Then-between) → in32 c.args.lo ≡ true
-low-in c = simp (to_z-of_z, c.ranges.lo) at (sym c.between.ensures ∙ c.if-between.true)
-
-high-in : (c : goal.Then-between-2) → in32 c.args.hi ≡ true
-high-in c = simp (to_z-of_z, c.ranges.hi) at (sym c.between-then-between.ensures ∙ c.if-between-2.true)
-
 pub returns-then-between-2 : goal.returns-then-between-2
-returns-then-between-2 c = let t = c.before.before in
-    let s = t.before.before.before.before in
-    let l = low-in t.before.before in
-    let h = high-in t in
+returns-then-between-2 c =
+    let l : in32 c.args.lo ≡ true = simp (to_z-of_z, c.ranges.lo) at (sym c.between.ensures ∙ c.if-between.true) in
+    let h : in32 c.args.hi ≡ true = simp (to_z-of_z, c.ranges.hi) at (sym c.between-then-between.ensures ∙ c.if-between-2.true) in
     rw (
       back w32 _ c.narrow.type_inv,
       back w32 _ c.narrow-then-between-2.type_inv,
       c.narrow.ensures,
       c.narrow-then-between-2.ensures,
-      to_z-of_z s.ranges.lo,
-      to_z-of_z s.ranges.hi,
+      to_z-of_z c.ranges.lo,
+      to_z-of_z c.ranges.hi,
       l,
       h,
     ) (sym (ap ranged_told (ranged-within _ l h)) ∙ ranged-told _)
 
 pub returns-else-between-2 : goal.returns-else-between-2
 returns-else-between-2 c =
+    let l : in32 c.args.lo ≡ true = simp (to_z-of_z, c.ranges.lo) at (sym c.between.ensures ∙ c.if-between.true) in
     let h = simp (to_z-of_z, c.ranges.hi) at (sym c.between-then-between.ensures ∙ c.if-between-2.false) in
-    sym (ap ranged_told (ranged-high _ (low-in c.before.before) h)) ∙ ranged-told _
+    sym (ap ranged_told (ranged-high _ l h)) ∙ ranged-told _
 
 pub returns-else-between : goal.returns-else-between
 returns-else-between c =
