@@ -92,6 +92,7 @@ module _ {A : Type 0} where
   pub any-all : {P Q : A → Type 0} {C : Type 0} {xs : List A} → All P xs → Any Q xs → ((x : A) → P x → Q x → C) → C
   any-all (All.cons {x} p ps) (Any.here q) f = f x p q
   any-all (All.cons p ps) (Any.there a) f = any-all ps a f
+  any-all All.nil a f = elim a [ ]
 
   -- each element is in the list
   pub all-self : (xs : List A) → All (λ x. Any (◌≡◌ x) xs) xs

@@ -36,7 +36,7 @@ module _ {A : Type 0} (E : Test A) (p : A → A → Bool) (p-comm : (a b : A) �
   pairwise-bag {R = []} h = rw (nil-only E h)
   pairwise-bag {R = x ∷ R} {S} h =
       let (in-S, rest) = same-tail E h in
-      rw (pairwise-pulled x S in-S) (ap₂ ◌&&◌ (all-bag (p x) rest) (pairwise-bag rest))
+      rw (pairwise-pulled x S in-S) (ap₂ ◌&&◌ (all-bag (p x) rest) (pairwise-bag {R = R} rest))
 
 differ_comm : (ks : List Bool) (μ ν : Row) → differ ks μ ν ≡ differ ks ν μ
 differ_comm [] μ ν = refl
