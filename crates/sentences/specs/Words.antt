@@ -2,7 +2,7 @@
 -- definitions, and they compute.
 use Rattle.std.specs.Prelude.{cond, List, [], ◌∷◌, ◌++◌, map, ℕ, ◌+◌, ◌/◌, ◌%◌, ltb}
 use Prim.Native.Char.{code}
-use Prim.Native.String.{String, [] as no_more, ◌∷◌ as ◌and-then◌}
+use Prim.Native.String.{String, [] as no_more, ◌∷◌ as ◌and_then◌}
 
 -- ---- characters as bytes
 
