@@ -12,12 +12,12 @@ use Rattle.store.proofs.cell.Goals as goal
 pub returns-then-not-inside : goal.returns-then-not-inside
 returns-then-not-inside c =
     let a = c.args in
-    c.from_work.ensures ∙ sym (cell-outside a.work.now a.relation a.row a.column (sym c.inside.ensures ∙ not-true c.inside.result c.if-not-inside.true))
+    c.from_work.ensures ∙ sym (cell-outside a.work.now a.relation a.row a.column (sym c.inside.ensures ∙ c.if-not-inside.true))
 
 pub position-at-requires : goal.position-at-requires
 position-at-requires c =
     let a = c.args in
-    let l = inside-limits sizes a.relation a.row a.column (sym c.inside.ensures ∙ not-false c.inside.result c.if-not-inside.false) in
+    let l = inside-limits sizes a.relation a.row a.column (sym c.inside.ensures ∙ c.if-not-inside.false) in
     search rules
 
 pub returns-then-work-at : goal.returns-then-work-at
@@ -28,5 +28,5 @@ returns-then-work-at c =
 pub returns : goal.returns
 returns c =
     let a = c.args in
-    let e = sym c.inside.ensures ∙ not-false c.inside.result c.if-not-inside.false in
+    let e = sym c.inside.ensures ∙ c.if-not-inside.false in
     c.from_work-2.ensures ∙ rw (back w32 _ c.from_work-arg-1.given, c.position-at.ensures) (sym (cell-found a.work.now a.relation a.row a.column e))

@@ -13,12 +13,12 @@ use Rattle.store.proofs.put_cell.Goals as goal
 pub returns-then-not-inside : goal.returns-then-not-inside
 returns-then-not-inside c =
     let a = c.args in
-    sym (put-outside a.work.now a.relation a.row a.column (value_of a.v) (sym c.inside.ensures ∙ not-true c.inside.result c.if-not-inside.true))
+    sym (put-outside a.work.now a.relation a.row a.column (value_of a.v) (sym c.inside.ensures ∙ c.if-not-inside.true))
 
 pub position-place-requires : goal.position-place-requires
 position-place-requires c =
     let a = c.args in
-    let l = inside-limits sizes a.relation a.row a.column (sym c.inside.ensures ∙ not-false c.inside.result c.if-not-inside.false) in
+    let l = inside-limits sizes a.relation a.row a.column (sym c.inside.ensures ∙ c.if-not-inside.false) in
     search rules
 
 pub returns-then-work-place : goal.returns-then-work-place
@@ -29,5 +29,5 @@ returns-then-work-place c =
 pub returns : goal.returns
 returns c =
     let a = c.args in
-    let e = sym c.inside.ensures ∙ not-false c.inside.result c.if-not-inside.false in
+    let e = sym c.inside.ensures ∙ c.if-not-inside.false in
     rw (back w32 _ c.stored.type_inv, c.stored.ensures, c.position-place.ensures, put-found a.work.now a.relation a.row a.column (value_of a.v) e)

@@ -17,13 +17,12 @@ loop-c-init c = search rules
 pub loop-c-preserved : goal.loop-c-preserved
 unfolding Strides.put_cells
 loop-c-preserved c =
-    let s = c.before.before.before.before.before.before.before in
     let l = c.loop-c in
-    let m : length s.args.row.values ≡ 8 = sym (length-map s.args.row.values _) ∙ s.well-formed.1.1.1.0.1.1.0.1.0.1 in
+    let m : length c.args.row.values ≡ 8 = c.well_formed.1.1.1.0.1.1.0.1.0.1 in
     let e = c.put_cell.ensures in (
       search rules,
-      rw e (put-cell-length l.part 0 s.args.at l.c _ ∙ l.invariant.1),
-      put_next s.args.part.now l.part c.put_cell.new.0 s.args.at s.args.width l.c s.args.row _
+      rw e (put-cell-length l.part 0 c.args.at l.c _ ∙ l.invariant.1),
+      put_next c.args.part.now l.part c.put_cell.new.work c.args.at c.args.width l.c c.args.row _
           (omega arith) (omega arith) l.invariant.2 e,
     )
 

@@ -8,7 +8,7 @@ use Rattle.store.proofs.put_row.Given as goal
 
 abbrev pub invariant-loop-c : goal.invariant-loop-c
 invariant-loop-c l =
-    (l.c ≤ l.width) × (length l.part ≡ length l.initial.part) × (l.part ≡ put_cells l.initial.part 0 l.at l.c (row_of (record { l.values = l.values }) l.width))
+    (l.c ≤ l.width) × (length l.part ≡ length l.initial.part) × (l.part ≡ put_cells l.initial.part 0 l.at l.c (row_of (record { values = l.values }) l.width))
 
 abbrev pub decreases-loop-c : goal.decreases-loop-c
 decreases-loop-c l = l.width - l.c

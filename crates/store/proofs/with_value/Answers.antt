@@ -16,4 +16,4 @@ returns-then-c-ge-COLUMNS c =
 pub returns : goal.returns
 returns c =
     let a = c.args in
-    λ w. with-set a.row a.c a.v w (search rules) (omega (arith, sym (length-map a.row.values _) ∙ c.well-formed.0.1.1.0.1.0.1))
+    λ w. with-set a.row a.c a.v w (search rules) (omega (arith, c.well_formed.0.1.1.0.1.0.1))

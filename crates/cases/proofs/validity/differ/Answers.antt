@@ -12,7 +12,7 @@ loop-c-init c = (omega arith, rest-first)
 
 pub returns-then-not-same : goal.returns-then-not-same
 returns-then-not-same c = rest-stops c.loop-c.invariant.1 c.loop-c-test.true
-    c.cell-x.ensures c.cell-y.ensures c.if-left-eq1.true (sym c.same.ensures ∙ not-true _ c.if-not-same.true)
+    c.cell-x.ensures c.cell-y.ensures c.if-left-eq1.true (sym c.same.ensures ∙ c.if-not-same.true)
 
 pub loop-c-smaller : goal.loop-c-smaller
 loop-c-smaller c = omega arith
@@ -21,7 +21,7 @@ pub loop-c-preserved : goal.loop-c-preserved
 loop-c-preserved c = (
   omega arith,
   ⊎_elim (λ u. rest-same c.loop-c.invariant.1 c.loop-c-test.true c.cell-x.ensures
-      c.cell-y.ensures (sym u.1.ensures ∙ not-false _ u.2.left)) (λ u. rest-unmarked c.loop-c.invariant.1
+      c.cell-y.ensures (sym u.1.ensures ∙ u.2.left)) (λ u. rest-unmarked c.loop-c.invariant.1
       c.loop-c-test.true c.cell-x.ensures c.cell-y.ensures u.left) c.if-left-eq1.branch,
 )
 

@@ -12,13 +12,13 @@ pub loop-i-init : goal.loop-i-init
 loop-i-init c = (omega arith, all-below-none _)
 
 pub returns-then-not-differ : goal.returns-then-not-differ
-returns-then-not-differ c = earlier-is _ _ _ _ _ (all-below-stops _ _ _ c.loop-i-test.true (sym c.differ.ensures ∙ not-true _ c.if-not-differ.true))
+returns-then-not-differ c = earlier-is _ _ _ _ _ (all-below-stops _ _ _ c.loop-i-test.true (sym c.differ.ensures ∙ c.if-not-differ.true))
 
 pub loop-i-smaller : goal.loop-i-smaller
 loop-i-smaller c = omega arith
 
 pub loop-i-preserved : goal.loop-i-preserved
-loop-i-preserved c = (omega arith, all-below-next _ _ c.loop-i.invariant.1 (sym c.differ.ensures ∙ not-false _ c.if-not-differ.false))
+loop-i-preserved c = (omega arith, all-below-next _ _ c.loop-i.invariant.1 (sym c.differ.ensures ∙ c.if-not-differ.false))
 
 pub returns : goal.returns
 returns c = earlier-is _ _ _ _ _ (all-below-whole _ _ _ (omega arith) c.loop-i.invariant.1)

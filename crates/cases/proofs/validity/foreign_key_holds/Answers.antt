@@ -13,14 +13,14 @@ loop-i-init c = (omega arith, all-below-none _)
 
 pub returns-then-not-has_parent : goal.returns-then-not-has_parent
 returns-then-not-has_parent c = key-is _ _ _ c.key_parts-key.ensures c.byte_at-children.ensures
-    c.byte_at-parents.ensures (all-below-stops _ _ _ c.loop-i-test.true (sym c.has_parent.ensures ∙ not-true _ c.if-not-has_parent.true))
+    c.byte_at-parents.ensures (all-below-stops _ _ _ c.loop-i-test.true (sym c.has_parent.ensures ∙ c.if-not-has_parent.true))
 
 pub loop-i-smaller : goal.loop-i-smaller
 loop-i-smaller c = omega arith
 
 pub loop-i-preserved : goal.loop-i-preserved
 loop-i-preserved c =
-    (omega arith, all-below-next _ _ c.loop-i.invariant.1 (sym c.has_parent.ensures ∙ not-false _ c.if-not-has_parent.false))
+    (omega arith, all-below-next _ _ c.loop-i.invariant.1 (sym c.has_parent.ensures ∙ c.if-not-has_parent.false))
 
 pub returns : goal.returns
 returns c =

@@ -14,7 +14,7 @@ returns-then-bytes-next c = left-ends c.loop-k.invariant.1 c.loop-k-test.true (o
 
 pub returns-then-not-foreign_key_holds : goal.returns-then-not-foreign_key_holds
 returns-then-not-foreign_key_holds c = left-fails c.loop-k.invariant.1 c.loop-k-test.true
-    (held-there _ _ c.frame_at-frame.ensures _ _ c.foreign_key_holds.ensures ∙ not-true _ c.if-not-foreign_key_holds.true)
+    (held-there _ _ c.frame_at-frame.ensures _ _ c.foreign_key_holds.ensures ∙ c.if-not-foreign_key_holds.true)
 
 pub loop-k-smaller : goal.loop-k-smaller
 loop-k-smaller c = omega arith
@@ -24,7 +24,7 @@ loop-k-preserved c = (
   omega arith,
   next-there _ _ c.frame_at-frame.ensures
       (left-passes c.loop-k.invariant.1 c.loop-k-test.true (omega arith)
-      (held-there _ _ c.frame_at-frame.ensures _ _ c.foreign_key_holds.ensures ∙ not-false _ c.if-not-foreign_key_holds.false)),
+      (held-there _ _ c.frame_at-frame.ensures _ _ c.foreign_key_holds.ensures ∙ c.if-not-foreign_key_holds.false)),
 )
 
 pub returns : goal.returns

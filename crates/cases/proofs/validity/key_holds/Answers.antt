@@ -16,13 +16,13 @@ loop-j-init c = (omega arith, all-below-none _)
 
 pub returns-then-not-differs_from_earlier : goal.returns-then-not-differs_from_earlier
 returns-then-not-differs_from_earlier c = keyed-is _ _ _ _ _ c.if-mask-eq0.false
-    (all-below-stops _ _ _ c.loop-j-test.true (sym c.differs_from_earlier.ensures ∙ not-true _ c.if-not-differs_from_earlier.true))
+    (all-below-stops _ _ _ c.loop-j-test.true (sym c.differs_from_earlier.ensures ∙ c.if-not-differs_from_earlier.true))
 
 pub loop-j-smaller : goal.loop-j-smaller
 loop-j-smaller c = omega arith
 
 pub loop-j-preserved : goal.loop-j-preserved
-loop-j-preserved c = (omega arith, all-below-next _ _ c.loop-j.invariant.1 (sym c.differs_from_earlier.ensures ∙ not-false _ c.if-not-differs_from_earlier.false))
+loop-j-preserved c = (omega arith, all-below-next _ _ c.loop-j.invariant.1 (sym c.differs_from_earlier.ensures ∙ c.if-not-differs_from_earlier.false))
 
 pub returns : goal.returns
 returns c = keyed-is _ _ _ _ _ c.if-mask-eq0.false (all-below-whole _ _ _ (omega arith) c.loop-j.invariant.1)

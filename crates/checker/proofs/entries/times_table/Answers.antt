@@ -14,13 +14,13 @@ pub loop-left-preserved : goal.loop-left-preserved
 loop-left-preserved c = (
   c.times_row-p.ensures.1,
   table-turn (columns_from c.args.shape.now c.args.ends.now
-      c.args.t 0 (width_at c.args.shape.now c.args.t)) c.loop-left.false
+      c.args.t 0 (width_at c.args.shape.now c.args.t)) c.loop-left.left
       c.loop-left.p c.times_row-p.result (omega arith) c.times_row-p.ensures.0 ∙ c.loop-left.invariant.1,
 )
 
 pub returns : goal.returns
 returns c = (
   sym (no_cells (columns_from c.args.shape.now c.args.ends.now c.args.t 0
-      (width_at c.args.shape.now c.args.t)) c.loop-left.false c.loop-left.p (omega arith)) ∙ c.loop-left.invariant.1,
+      (width_at c.args.shape.now c.args.t)) c.loop-left.left c.loop-left.p (omega arith)) ∙ c.loop-left.invariant.1,
   c.loop-left.invariant.0,
 )

@@ -13,7 +13,7 @@ column_fault-found-requires c = omega arith
 
 pub returns-then-found-ne0 : goal.returns-then-found-ne0
 unfolding columns_fault
-returns-then-found-ne0 c = sym (times-stop sized-column c.args.frame.now c.loop-left.at c.loop-left.false _ c.loop-left-test.true
+returns-then-found-ne0 c = sym (times-stop sized-column c.args.frame.now c.loop-left.at c.loop-left.left _ c.loop-left-test.true
     c.column_fault-found.ensures c.if-found-ne0.true) ∙ c.loop-left.invariant.0
 
 pub overflow_add-at : goal.overflow_add-at
@@ -28,11 +28,11 @@ loop-left-smaller c = omega arith
 pub loop-left-preserved : goal.loop-left-preserved
 unfolding columns_fault
 loop-left-preserved c = (
-  sym (times-go sized-column c.args.frame.now c.loop-left.at c.loop-left.false _ c.loop-left-test.true
+  sym (times-go sized-column c.args.frame.now c.loop-left.at c.loop-left.left _ c.loop-left-test.true
       c.column_fault-found.ensures c.if-found-ne0.false) ∙ c.loop-left.invariant.0,
   omega arith,
 )
 
 pub returns : goal.returns
 unfolding columns_fault
-returns c = sym (times-end sized-column c.args.frame.now c.loop-left.at c.loop-left.false c.loop-left-test.false) ∙ c.loop-left.invariant.0
+returns c = sym (times-end sized-column c.args.frame.now c.loop-left.at c.loop-left.left c.loop-left-test.false) ∙ c.loop-left.invariant.0

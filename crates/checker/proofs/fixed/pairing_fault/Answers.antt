@@ -11,7 +11,7 @@ pub column_pairing-found-requires : goal.column_pairing-found-requires
 column_pairing-found-requires c = tt
 
 pub returns-then-found-ne0 : goal.returns-then-found-ne0
-returns-then-found-ne0 c = sym (pairing-stop c.args.frame.now c.args.n c.loop-left.i c.loop-left.false
+returns-then-found-ne0 c = sym (pairing-stop c.args.frame.now c.args.n c.loop-left.i c.loop-left.left
     c.loop-left.rest _ c.loop-left-test.true c.column_pairing-found.ensures c.if-found-ne0.true) ∙ c.loop-left.invariant.0
 
 pub overflow_add-i : goal.overflow_add-i
@@ -25,10 +25,10 @@ loop-left-smaller c = omega arith
 
 pub loop-left-preserved : goal.loop-left-preserved
 loop-left-preserved c = (
-  sym (pairing-go c.args.frame.now c.args.n c.loop-left.i c.loop-left.false
+  sym (pairing-go c.args.frame.now c.args.n c.loop-left.i c.loop-left.left
       c.loop-left.rest _ c.loop-left-test.true c.column_pairing-found.ensures c.if-found-ne0.false) ∙ c.loop-left.invariant.0,
   omega arith,
 )
 
 pub returns : goal.returns
-returns c = sym (pairing-end c.args.frame.now c.args.n c.loop-left.i c.loop-left.false c.loop-left.rest c.loop-left-test.false) ∙ c.loop-left.invariant.0
+returns c = sym (pairing-end c.args.frame.now c.args.n c.loop-left.i c.loop-left.left c.loop-left.rest c.loop-left-test.false) ∙ c.loop-left.invariant.0

@@ -14,7 +14,7 @@ pair_fault-found-requires c = omega arith
 pub returns-then-found-ne0 : goal.returns-then-found-ne0
 unfolding pairs_fault
 returns-then-found-ne0 c = sym (times-stop (sized-pair c.args.c c.args.p) c.args.frame.now
-    c.loop-left.at c.loop-left.false _ c.loop-left-test.true c.pair_fault-found.ensures c.if-found-ne0.true) ∙ c.loop-left.invariant.0
+    c.loop-left.at c.loop-left.left _ c.loop-left-test.true c.pair_fault-found.ensures c.if-found-ne0.true) ∙ c.loop-left.invariant.0
 
 pub overflow_add-at : goal.overflow_add-at
 overflow_add-at c = omega arith
@@ -29,11 +29,11 @@ pub loop-left-preserved : goal.loop-left-preserved
 unfolding pairs_fault
 loop-left-preserved c = (
   sym (times-go (sized-pair c.args.c c.args.p) c.args.frame.now
-      c.loop-left.at c.loop-left.false _ c.loop-left-test.true c.pair_fault-found.ensures c.if-found-ne0.false) ∙ c.loop-left.invariant.0,
+      c.loop-left.at c.loop-left.left _ c.loop-left-test.true c.pair_fault-found.ensures c.if-found-ne0.false) ∙ c.loop-left.invariant.0,
   omega arith,
 )
 
 pub returns : goal.returns
 unfolding pairs_fault
-returns c = sym (times-end (sized-pair c.args.c c.args.p) c.args.frame.now c.loop-left.at c.loop-left.false c.loop-left-test.false)
+returns c = sym (times-end (sized-pair c.args.c c.args.p) c.args.frame.now c.loop-left.at c.loop-left.left c.loop-left-test.false)
     ∙ c.loop-left.invariant.0

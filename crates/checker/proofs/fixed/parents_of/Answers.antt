@@ -32,7 +32,7 @@ loop-left-smaller c = omega arith
 
 pub loop-left-preserved : goal.loop-left-preserved
 loop-left-preserved c = (
-  parents-more c.args.frame.now c.args.i c.loop-left.at c.loop-left.false _ _ _
+  parents-more c.args.frame.now c.args.i c.loop-left.at c.loop-left.left _ _ _
       c.loop-left-test.true (c.one_if-one.ensures.0 ∙ ap (λ b. tick (eqb b c.args.i) 0) c.byte_at.ensures)
       c.loop-left.invariant.0,
   omega arith,
@@ -40,4 +40,4 @@ loop-left-preserved c = (
 )
 
 pub returns : goal.returns
-returns c = omega (arith, parents-end c.args.frame.now c.args.i c.loop-left.at c.loop-left.false c.loop-left-test.false)
+returns c = omega (arith, parents-end c.args.frame.now c.args.i c.loop-left.at c.loop-left.left c.loop-left-test.false)

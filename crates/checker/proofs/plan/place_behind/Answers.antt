@@ -10,9 +10,9 @@ loop-left-init c = (omega arith, refl)
 pub loop-left-preserved : goal.loop-left-preserved
 loop-left-preserved c = (
   omega arith,
-  rw c.byte_at.ensures (start-turn c.args.bytes.now c.loop-left.at c.loop-left.false
+  rw c.byte_at.ensures (start-turn c.args.bytes.now c.loop-left.at c.loop-left.left
       (omega arith) ∙ c.loop-left.invariant.1),
 )
 
 pub returns : goal.returns
-returns c = start-end c.args.bytes.now c.loop-left.at c.loop-left.false (omega arith) ∙ c.loop-left.invariant.1
+returns c = start-end c.args.bytes.now c.loop-left.at c.loop-left.left (omega arith) ∙ c.loop-left.invariant.1

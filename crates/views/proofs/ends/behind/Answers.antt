@@ -17,7 +17,7 @@ returns-then-bytes-eq0 c = left_other c.loop-left.invariant c.loop-left-test.tru
 pub overflow_add-next : goal.overflow_add-next
 overflow_add-next c =
     let s = c.before.before.before.before.before.before.before in
-    omega (arith, s.well-formed, c.if-frame-next.false)
+    omega (arith, s.well_formed, c.if-frame-next.false)
 
 pub overflow_sub-left : goal.overflow_sub-left
 overflow_sub-left c = omega arith
@@ -25,7 +25,7 @@ overflow_sub-left c = omega arith
 pub overflow_add-left : goal.overflow_add-left
 overflow_add-left c =
     let s = c.before.before.before.before.before.before.before.before in
-    omega (arith, s.well-formed, c.if-frame-next.false, left-few c.loop-left.invariant c.own_forms.ensures)
+    omega (arith, s.well_formed, c.if-frame-next.false, left-few c.loop-left.invariant c.own_forms.ensures)
 
 pub loop-left-smaller : goal.loop-left-smaller
 loop-left-smaller c = omega arith

@@ -11,7 +11,7 @@ pub loop-c-init : goal.loop-c-init
 loop-c-init c = (omega arith, alike-none _ _ _ _ _)
 
 pub returns-then-not-same : goal.returns-then-not-same
-returns-then-not-same c = alike-stops _ _ _ _ _ _ _ _ _ c.loop-c-test.true c.cell-x.ensures c.cell-y.ensures (sym c.same.ensures ∙ not-true _ c.if-not-same.true)
+returns-then-not-same c = alike-stops _ _ _ _ _ _ _ _ _ c.loop-c-test.true c.cell-x.ensures c.cell-y.ensures (sym c.same.ensures ∙ c.if-not-same.true)
 
 pub loop-c-smaller : goal.loop-c-smaller
 loop-c-smaller c = omega arith
@@ -20,7 +20,7 @@ pub loop-c-preserved : goal.loop-c-preserved
 loop-c-preserved c = (
   omega arith,
   alike-more _ _ _ _ _ _ _ _ c.loop-c.invariant.1 c.cell-x.ensures c.cell-y.ensures (sym
-      c.same.ensures ∙ not-false _ c.if-not-same.false),
+      c.same.ensures ∙ c.if-not-same.false),
 )
 
 pub returns : goal.returns
