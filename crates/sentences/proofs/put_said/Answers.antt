@@ -8,47 +8,42 @@ use Rattle.sentences.proofs.put_said.Goals as goal
 pub put_text-requires : goal.put_text-requires
 put_text-requires c =
     let a = c.args in
-    let k = sym c.is_known.ensures ∙ c.if-is_known.true in (
-      known_small a.language a.named a.number k,
-      known-room a.language a.named a.number k a.at a.out.now c.requires,
-    )
+    let k = sym c.is_known.ensures ∙ c.if-is_known.true in record {
+      n_bound = known_small a.language a.named a.number k;
+      n_in_bounds = known-room a.language a.named a.number k a.at a.out.now c.requires;
+    }
 
 pub returns-then-is_known : goal.returns-then-is_known
 returns-then-is_known c =
-    let e = c.before.before.before.before in
-    let a = e.args in
-    let k = sym e.is_known.ensures ∙ e.if1.true in
+    let a = c.args in
+    let k = sym c.is_known.ensures ∙ c.if-is_known.true in
     over-same (said-known a.language a.named a.number k) c.put_text.ensures
 
 pub put_text-a-requires : goal.put_text-a-requires
 put_text-a-requires c =
-    let e = c.before in
-    let a = e.args in
-    let k = sym e.is_known.ensures ∙ e.if1.false in
-    (omega arith, first-room a.language a.named a.number k a.at a.out.now c.requires)
+    let a = c.args in
+    let k = sym c.is_known.ensures ∙ c.if-is_known.false in
+    record { n_bound = omega arith; n_in_bounds = first-room a.language a.named a.number k a.at a.out.now c.requires }
 
 pub put_figures-b-requires : goal.put_figures-b-requires
 put_figures-b-requires c =
-    let e = c.before.before.before.before.before in
-    let a = e.args in
-    let k = sym e.is_known.ensures ∙ e.if1.false in
+    let a = c.args in
+    let k = sym c.is_known.ensures ∙ c.if-is_known.false in
     number-room a.language a.named a.number k a.at a.out.now c.requires
     c.put_text-a.ensures
 
 pub put_piece-requires : goal.put_piece-requires
 put_piece-requires c =
-    let e = c.before.before.before.before.before.before.before.before.before in
-    let a = e.args in
-    let k = sym e.is_known.ensures ∙ e.if1.false in
+    let a = c.args in
+    let k = sym c.is_known.ensures ∙ c.if-is_known.false in
     close-room a.language a.named a.number k a.at a.out.now
     c.requires
     c.put_text-a.ensures c.put_figures-b.ensures
 
 pub returns : goal.returns
 returns c =
-    let e = c.before.before.before.before.before.before.before.before.before.before.before.before in
-    let a = e.args in
-    let k = sym e.is_known.ensures ∙ e.if1.false in
+    let a = c.args in
+    let k = sym c.is_known.ensures ∙ c.if-is_known.false in
     other-put a.language a.named a.number k a.at a.out.now
     c.requires
     c.put_text-a.ensures

@@ -14,13 +14,13 @@ put_piece-requires c =
     let a = c.args in
     omega (
       arith,
-      c.requires.1,
-      ap length (text-piece a.language a.n a.named c.first_text-first.ensures c.requires.0),
+      c.requires.n_in_bounds,
+      ap length (text-piece a.language a.n a.named c.first_text-first.ensures c.requires.n_bound),
     )
 
 pub returns : goal.returns
 returns c =
     let a = c.args in
     over-same
-    (sym (text-piece a.language a.n a.named c.first_text-first.ensures c.requires.0))
+    (sym (text-piece a.language a.n a.named c.first_text-first.ensures c.requires.n_bound))
     c.put_piece.ensures

@@ -5,6 +5,7 @@ use native.Mathlib.Omega.{arith}
 use borrow.Author.Rules.{rules}
 use Rattle.sentences.proofs.PutLaws.{passing-begin, passing-break, passing-byte, passing-short, passing-done}
 use Rattle.sentences.proofs.words.past_lines.Goals as goal
+use Rattle.sentences.proofs.words.past_lines.Goals.{then-text-i-eq10, else-text-i-eq10}
 
 pub loop-left-init : goal.loop-left-init
 loop-left-init c = passing-begin _ _
@@ -27,9 +28,7 @@ loop-left-smaller c = omega arith
 pub loop-left-preserved : goal.loop-left-preserved
 loop-left-preserved c =
     let inv = c.loop-left.invariant in
-    ⊎_elim (λ h. rw h.1 (passing-break _ _ inv (search rules) (search rules) (search rules)))
-    (λ h. rw h.1 (passing-byte _ _ inv (search rules) (search rules) (search rules)))
-    c.if-text-i-eq10.branch
+    elim c.if-text-i-eq10.branch [ then-text-i-eq10 h ↦ rw h.left-is (passing-break _ _ inv (search rules) (search rules) (search rules)) | else-text-i-eq10 h ↦ rw h.left-is (passing-byte _ _ inv (search rules) (search rules) (search rules)) ]
 
 pub returns : goal.returns
 returns c = passing-done _ _ c.loop-left.invariant (omega (arith, c.loop-left-test))
