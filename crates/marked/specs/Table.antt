@@ -1,7 +1,7 @@
 -- The marked examples of document 01, M1 to M12: one table of texts with what each must give. Assumes nothing: these are definitions.
 use Rattle.std.specs.Prelude.{◌≡◌, List, [], ◌∷◌, ◌++◌, map, ℕ, ◌+◌, ◌≤◌, ◌<◌, ℤ, pos, neg_ℤ, length, drop}
 use Prim.Native.Char.{code}
-use Prim.Native.String.{String, [] as no_more, ◌∷◌ as ◌and-then◌}
+use Prim.Native.String.{String, [] as no_more, ◌∷◌ as ◌and_then◌}
 use Rattle.value.specs.Value.{Value}
 use Rattle.range.specs.Ranges.{range_from}
 use Rattle.meaning.specs.Syntax.{File, Row}
