@@ -6,6 +6,7 @@ use native.Mathlib.Omega.{arith}
 use borrow.Author.Tests.{not-false, not-true}
 use Rattle.cases.proofs.KeyLaws.{rest-first, rest-stops, rest-same, rest-unmarked, rest-none}
 use Rattle.cases.proofs.validity.differ.Goals as goal
+use Rattle.cases.proofs.validity.differ.Goals.{else-left-eq1-via-then-left-eq1+else-not-same, else-left-eq1-via-else-left-eq1}
 
 pub loop-c-init : goal.loop-c-init
 loop-c-init c = (omega arith, rest-first)
@@ -20,9 +21,10 @@ loop-c-smaller c = omega arith
 pub loop-c-preserved : goal.loop-c-preserved
 loop-c-preserved c = (
   omega arith,
-  ⊎_elim (λ u. rest-same c.loop-c.invariant.1 c.loop-c-test.true c.cell-x.ensures
-      c.cell-y.ensures (sym u.1.ensures ∙ u.2.left)) (λ u. rest-unmarked c.loop-c.invariant.1
-      c.loop-c-test.true c.cell-x.ensures c.cell-y.ensures u.left) c.if-left-eq1.branch,
+  elim c.else-left-eq1.branch [
+    else-left-eq1-via-then-left-eq1+else-not-same u ↦ rest-same c.loop-c.invariant.1 c.loop-c-test.true c.cell-x.ensures c.cell-y.ensures (sym u.same.ensures ∙ u.if-not-same.false) |
+    else-left-eq1-via-else-left-eq1 u ↦ rest-unmarked c.loop-c.invariant.1 c.loop-c-test.true c.cell-x.ensures c.cell-y.ensures u.if-left-eq1.false
+  ],
 )
 
 pub returns : goal.returns
