@@ -4,7 +4,5 @@ use Rattle.trial.proofs.every_relation.Goals as goal
 
 pub returns : goal.returns
 returns c =
-    let judged = c.before.before.before.before.before.before.before.before.before.before.before.before.before.before.before.before.before in
-    let flagged = judged.before.before.before.before.before.before.before in
-    every-relation flagged.count_tables.ensures flagged.needs-of.ensures judged.is-case.ensures
+    every-relation c.count_tables.ensures c.needs_of.ensures c.is_case-case.ensures
     c.set_all.ensures c.evaluate.ensures

@@ -18,12 +18,10 @@ returns-then-p-ne0 c =
 
 pub returns-then-every_relation : goal.returns-then-every_relation
 returns-then-every_relation c =
-    let checked = c.before.before.before.before.before.before.before.before.before.before.before.before.before.before in
-    accepted-trial (file_of checked.args.text.now) checked.check.result (omega arith) (omega arith)
-    checked.check.ensures c.if-p-ne0.false c.every_relation.ensures (rw c.if-every_relation.true)
+    accepted-trial (file_of c.args.text.now) c.check-p.result (omega arith) (omega arith)
+    c.check-p.ensures c.if-p-ne0.false c.every_relation.ensures (rw c.if-every_relation.true)
 
 pub returns-else-every_relation : goal.returns-else-every_relation
 returns-else-every_relation c =
-    let checked = c.before.before.before.before.before.before.before.before.before.before.before.before.before.before in
-    accepted-trial (file_of checked.args.text.now) checked.check.result (omega arith) (omega arith)
-    checked.check.ensures c.if-p-ne0.false c.every_relation.ensures (rw c.if-every_relation.false)
+    accepted-trial (file_of c.args.text.now) c.check-p.result (omega arith) (omega arith)
+    c.check-p.ensures c.if-p-ne0.false c.every_relation.ensures (rw c.if-every_relation.false)
