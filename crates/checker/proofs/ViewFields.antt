@@ -18,7 +18,7 @@ use Rattle.language.proofs.Readers.{then_ok}
 use Rattle.catalog.specs.Frames.{froms_in, parts_after}
 use Rattle.catalog.specs.declared.frames.Parts.{Parts}
 use Rattle.bounds.specs.Walk.{places_from}
-use Rattle.language.specs.Draft.{Draft, Item, relation_count, width, schemas_of}
+use Rattle.language.specs.Draft.{Draft, Item, relation_count, schemas_of}
 use Rattle.language.specs.Frames.{repeated, field, ending, from_list, place_field, grouped_frame}
 use Rattle.checker.proofs.FieldLaws.{at-end}
 

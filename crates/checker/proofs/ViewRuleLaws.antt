@@ -33,7 +33,7 @@ use Rattle.bounds.specs.declared.Rule.{Rule}
 use Rattle.bounds.specs.declared.Sized.{Sized}
 use Rattle.bounds.specs.declared.Tested.{Tested}
 use Rattle.bounds.proofs.Parts.{ranged-is}
-use Rattle.language.specs.Draft.{Draft, added, relation_count, schemas_of, width, Item}
+use Rattle.language.specs.Draft.{Draft, added, relation_count, schemas_of, Item}
 use Rattle.language.specs.Frames.{repeated, field, from_list, place_field, basic_frame, whole_fault}
 use Rattle.checker.specs.Catalogued.{Catalogued}
 use Rattle.checker.specs.ViewFaults.{own_frame}

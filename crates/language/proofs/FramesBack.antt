@@ -23,7 +23,7 @@ use Rattle.language.proofs.Readers.{one}
 use Rattle.language.proofs.PrefixForms.{constant-fits, back_e, back_c}
 use Rattle.language.specs.Draft.{Draft, relation_count, is_view, schemas_of, Item}
 use Rattle.language.specs.Frames.{repeated, mask_bits, column_field, table_frame, pair_field, key_frame, from_list, basic_frame, place_field, grouped_frame, set_frame, goal_frame}
-use Rattle.language.specs.Legal.{Limits, LegalColumn, LegalTable, LegalPair, KeyFields, LegalFrom, LegalPlace, LegalBasic, LegalGrouped, NamesView, LegalSet, widths}
+use Rattle.language.specs.Legal.{Limits, LegalColumn, LegalTable, LegalPair, KeyFields, LegalFrom, LegalPlace, LegalBasic, LegalGrouped, NamesView, LegalSet}
 use Rattle.language.specs.Written.{column_bytes, mask_of}
 use Rattle.language.proofs.MaskLaws.{mask-small, bits_back}
 use Rattle.language.proofs.SoundFrames.{joined-ones, regroup, pair_bytes, place_bytes}

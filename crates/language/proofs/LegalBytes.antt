@@ -26,7 +26,7 @@ use Rattle.meaning.proofs.Sizes.{length-set_ranges}
 use Rattle.language.proofs.PrefixForms.{constant-fits}
 use Rattle.language.proofs.Readers.{Byte}
 use Rattle.meaning.proofs.Stacks.{length-snoc}
-use Rattle.language.specs.Legal.{LegalColumn, LegalTable, LegalPair, LegalKey, LegalFrom, LegalSelect, LegalPlace, LegalView, ViewFields, EveryView, Legal, widths}
+use Rattle.language.specs.Legal.{LegalColumn, LegalTable, LegalPair, LegalKey, LegalFrom, LegalSelect, LegalPlace, LegalView, ViewFields, EveryView, Legal}
 use Rattle.language.specs.Written.{mask_of, column_bytes, table_bytes, key_bytes, set_kind, view_bytes, goal_bytes, file_frames}
 use Rattle.language.proofs.MaskLaws.{mask-small}
 use Rattle.language.proofs.SoundFrames.{pair_bytes, place_bytes}

@@ -16,7 +16,6 @@ use Rattle.meaning.specs.Bounds.{well_formed}
 use Rattle.meaning.specs.Syntax.{File, ForeignKey, Table, View}
 use Rattle.meaning.proofs.Elements.{all_append, all_both}
 use Rattle.language.proofs.Readers.{Byte}
-use Rattle.text.specs.Answers.{fits, written}
 use Rattle.text.specs.Text.{Frame, Lines, frames_of, text_of}
 use Rattle.text.proofs.Laws.{only-such, reads-back}
 use Rattle.text.proofs.Writing.{text-length}

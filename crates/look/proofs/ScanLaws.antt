@@ -16,7 +16,7 @@ use Rattle.value.proofs.Values.{all_map}
 use Rattle.meaning.specs.Syntax.{File, Row}
 use Rattle.meaning.specs.Evaluation.{missing}
 use Rattle.meaning.specs.Decided.{is_case, is_case_at}
-use Rattle.meaning.specs.Candidates.{cells, database}
+use Rattle.meaning.specs.Candidates.{database}
 use Rattle.meaning.proofs.Demand3.{every-database}
 use Rattle.meaning.proofs.Elements.{map_same}
 use Rattle.meaning.proofs.Seeks.{sought-one}

@@ -14,7 +14,7 @@ use Rattle.value.proofs.Decides.{Decides, and-dec, by-dec, dec-true, or-dec}
 use Rattle.meaning.specs.Algebra.{Bag, below, query}
 use Rattle.meaning.specs.Bounds.{aggregates_fit, earlier, every_view, names, schemas, table_schema, view_schema, well_formed}
 use Rattle.meaning.specs.Cases.{Case, Inhabited, NTC, NonEmpty, PTC, PTC-query, Wanted}
-use Rattle.meaning.specs.Decided.{has_row, is_case, negative, refuted, set_negative, some_row, wanted, valid}
+use Rattle.meaning.specs.Decided.{has_row, is_case, negative, refuted, set_negative, some_row, wanted}
 use Rattle.meaning.specs.Evaluation.{row_test}
 use Rattle.meaning.specs.Rows.{rows, rows_of}
 use Rattle.meaning.specs.Syntax.{Database, File, Goal, SetOperation, View}

@@ -7,10 +7,8 @@ use lib.ListN.{length, get_or}
 use Rattle.value.specs.Value.{Value, value_test}
 use Rattle.value.proofs.Decides.{Decides, and-dec, by-dec, eqb-dec, imp-dec, not-dec, or-dec, test-dec}
 use Rattle.value.proofs.Values.{within-dec}
-use Rattle.meaning.specs.Candidates.{values}
 use Rattle.meaning.specs.Evaluation.{missing}
 use Rattle.meaning.specs.Lists.{each}
-use Rattle.meaning.specs.Rows.{rows}
 use Rattle.meaning.specs.Syntax.{Database, File, ForeignKey, Pair, Row, Table}
 use Rattle.meaning.specs.Valid.{Agrees, Differ, ForeignKeyHolds, InRange, KeyHolds, Shaped, Valid}
 use Rattle.meaning.specs.Decided.{agrees, differ, foreign_key_holds, in_range, key_holds, valid}

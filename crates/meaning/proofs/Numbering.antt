@@ -17,7 +17,7 @@ use Rattle.meaning.specs.Lists.{Each, all, copies, joined}
 use Rattle.meaning.specs.Syntax.{Table, File, Row, Database}
 use Rattle.meaning.specs.Valid.{InRange}
 use Rattle.meaning.specs.Bounds.{ordered}
-use Rattle.meaning.specs.Candidates.{cell_columns, values, number, cut_rows, cut, cell_count, candidates, cells, database, Numbered}
+use Rattle.meaning.specs.Candidates.{cell_columns, number, cut_rows, cut, cell_count, candidates, cells, database, Numbered}
 use Rattle.meaning.proofs.Elements.{all_append, all-test, each_append}
 use Rattle.meaning.proofs.DecidedLists.{each-length}
 use Rattle.meaning.proofs.Digits.{Ascending, product-above, length-values, values-within, number-values, number-below, values-number, values-unique}

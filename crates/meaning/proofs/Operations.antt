@@ -12,7 +12,7 @@ use Rattle.meaning.specs.Algebra.{Bag, Groups, IsGroup, IsGrouping, IsProduct, I
 use Rattle.meaning.specs.Bounds.{aggregates_fit, allowed_c, allowed_e, grouping_column, in_basic, in_grouped, in_where}
 use Rattle.meaning.specs.Evaluation.{cell, combination_test, key_of, row_test, satisfies}
 use Rattle.meaning.specs.Lists.{all, combinations, gate, keep, pairs}
-use Rattle.meaning.specs.Rows.{kept, group_keys, members, relations, rows_of, set_rows, spread, together}
+use Rattle.meaning.specs.Rows.{kept, group_keys, members, rows_of, set_rows, spread, together}
 use Rattle.meaning.specs.Syntax.{Combination, Place, Row, SetOperation, View}
 use Rattle.meaning.proofs.Alike.{Alike, alone-alike, satisfies-alike, selected-alike}
 use Rattle.meaning.proofs.ListBags.{all-count, count-append, count-common, count-first, count-firsts, count-keep, count_map, count_if-bag, count_if-where, gate-none, gate-some, same_refl}

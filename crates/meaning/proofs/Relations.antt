@@ -8,7 +8,6 @@ use mathlib.Core.Option.{some, none-ne-some}
 use lib.Seq.{get_or-take}
 use lib.ListN.{take, length-take, length, get_or, get_elem?, get_or-eq_default}
 use Rattle.value.specs.Bag.{Same}
-use Rattle.value.specs.Value.{size}
 use Rattle.meaning.specs.Algebra.{Bag, IsMeaning, MeaningOf, SameTables, below, query}
 use Rattle.meaning.specs.Bounds.{Schema, aggregates_fit, schemas, table_schema, view_schema, well_formed}
 use Rattle.meaning.specs.Evaluation.{row_test}

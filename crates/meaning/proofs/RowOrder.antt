@@ -7,7 +7,7 @@ use Prim.Native.Nat.{ℕ, zero, suc, ◌+◌, ◌<◌, ◌≤◌}
 use native.Mathlib.Omega.{arith}
 use lib.ListN.{length, get_or}
 use Rattle.value.specs.Bag.{Same, Test, count, remove}
-use Rattle.value.specs.Value.{size, value_test, in_column}
+use Rattle.value.specs.Value.{value_test, in_column}
 use Rattle.value.proofs.Bags.{nil-only, pulled, same-tail}
 use Rattle.value.proofs.Decides.{by-test, and-cross}
 use Rattle.meaning.specs.Algebra.{Bag, SameTables, below, query}

@@ -11,7 +11,7 @@ use Rattle.value.proofs.Decides.{by-test, and_parts}
 use Rattle.value.proofs.Linear.{ints}
 use Rattle.value.proofs.Fits.{fits-in32, in32-fits}
 use Rattle.value.proofs.Values.{between-wider}
-use Rattle.range.specs.Ranges.{Inside, within32, Fitted, fitted, ranged_told, ranged}
+use Rattle.range.specs.Ranges.{Inside, within32, fitted, ranged_told, ranged}
 use Rattle.range.specs.declared.Range.{Range}
 use Rattle.range.specs.declared.Ranged.{Ranged}
 use Rattle.range.specs.declared.Ranged.TheVariants.{Within, Beyond}

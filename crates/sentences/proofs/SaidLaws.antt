@@ -6,7 +6,7 @@ use Prim.Native.Nat.{ℕ, ◌+◌, ◌≤◌, ◌<◌}
 use native.Mathlib.Omega.{arith}
 use borrow.Author.Tests.{ltb-true, leb-true, leb-false, lt-ltb, le-ltb, lt-leb, eq-eqb, ne_eqb}
 use lib.Dec.{ltb, leb}
-use lib.ListN.{length, get_or, length-append}
+use lib.ListN.{length, get_or}
 use Rattle.value.proofs.Decides.{by-test, and_parts}
 use Rattle.sentences.specs.Words.{Language}
 use Rattle.sentences.specs.Sentence.{figures, said, sentence}

@@ -1,6 +1,6 @@
 -- The sheet of any text: nothing where it is accepted, and else two lines, of which each gives number and line back. Assumes nothing.
 use mathlib.Core.Path.{◌≡◌, refl, sym, ap, ◌∙◌}
-use mathlib.Core.Bool.{true, not, ◌&&◌}
+use mathlib.Core.Bool.{◌&&◌}
 use mathlib.Core.List.{List, [], ◌∷◌, ◌++◌}
 use Prim.Native.Nat.{ℕ, zero, suc, ◌+◌, ◌/◌, ◌%◌, ◌≤◌, ◌<◌}
 use native.Mathlib.Omega.{arith}
@@ -23,7 +23,7 @@ use Rattle.language.proofs.InputLaws.{input-cut}
 use Rattle.sentences.specs.Words.{Language}
 use Rattle.sentences.specs.English.{english}
 use Rattle.sentences.specs.French.{french}
-use Rattle.sentences.specs.Sentence.{figures_of, figures, said, sentence, back}
+use Rattle.sentences.specs.Sentence.{figures_of, said, sentence, back}
 use Rattle.sentences.specs.SheetOf.{in_lines, both_sentences, sheet_by, sheet_of, first_line, past_line, SheetSays}
 use Rattle.sentences.specs.Pieces.{pieces}
 use Rattle.sentences.proofs.PieceLaws.{Unbroken, english-unbroken, french-unbroken, line_of}

@@ -1,7 +1,7 @@
 -- The laws of values, which every other crate uses in place of their definitions. Assumes nothing.
 use mathlib.Core.Path.{◌≡◌, refl, sym, ap, ◌∙◌}
 use mathlib.Core.Bool.{Bool, true, false, not, true≢false}
-use mathlib.Core.List.{List, [], ◌∷◌, ◌++◌, foldr}
+use mathlib.Core.List.{List, [], ◌∷◌, ◌++◌}
 use mathlib.Core.Option.{none, some}
 use Prim.Native.Nat.{ℕ, zero, suc, ◌≤◌, ◌<◌}
 use native.Mathlib.Nat.{mul-le-mul_left}
@@ -10,7 +10,7 @@ use lib.IntN.{ℤ, pos, nat_abs, ◌+ℤ◌, ◌-ℤ◌, ◌*ℤ◌, +ℤ_assoc,
 use lib.ListN.{length}
 use lib.Signed.{◌≤ℤ◌}
 use Rattle.value.specs.Bag.{All, Same}
-use Rattle.value.specs.Integer.{low32, high32, low16, high16, min_z, max_z, least_end, greatest_end, round_z}
+use Rattle.value.specs.Integer.{low16, high16, min_z, max_z, least_end, greatest_end, round_z}
 use Rattle.value.specs.Value.{Operation, operation_at, apply_z, Comparison, comparison_at, Connective, connective_at, Aggregate, aggregate_at, sure, negate, holds, Value, apply, round, value_test, Tally, start, combine, weight, gather, more, finish, tally, total, TallyBetween, TallyHeld, Between, between, Held, narrowed, narrowed_tally, stored, shown, Cell, Column, InColumn, in_column, size, digit, digit_of, Truth, connect}
 use Rattle.value.proofs.Decides.{Decides, and-dec, by-dec}
 use Rattle.value.proofs.Linear.{‵, ◌⊕◌, ◌⊗◌, ≤-by, ≤-to, ≤-parts, sum-parts, diff-parts, magnitude-parts, ints}

@@ -1,7 +1,5 @@
 -- The proof of the cycle of calls of `bounds::condition`, `bounds::expression` and `bounds::two`. The measure is twice what is left of
 -- the frame, and one more where the function hands its own position on. Each answer cites the law of its token. Assumes nothing.
-use mathlib.Core.Logic.{⊎_elim}
-use Prim.Native.Nat.{◌-◌}
 use native.Mathlib.Omega.{arith}
 use Rattle.catalog.proofs.ItemLaws.{opened-last}
 use Rattle.bounds.proofs.Walks.{two-in-turn, end_e, end_c, on-constant, on-column, on-operation, on-rounding, on-choice, on-aggregate, unknown_e, on-always, on-comparison, on-negated, on-connection, on-exists, unknown_c}

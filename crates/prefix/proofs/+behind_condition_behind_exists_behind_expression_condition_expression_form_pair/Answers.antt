@@ -4,7 +4,7 @@
 use mathlib.Core.Path.{ap, sym, ◌∙◌}
 use mathlib.Core.Bool.{Bool, ◌&&◌}
 use lib.Dec.{leb}
-use Prim.Native.Nat.{ℕ, ◌-◌}
+use Prim.Native.Nat.{ℕ}
 use native.Mathlib.Omega.{arith}
 use Rattle.prefix.specs.Skipped.{skip_told}
 use Rattle.language.specs.Reading.{byte_if, step, read_c}

@@ -1,6 +1,5 @@
 -- `report::put_cells` meets its contract. Assumes nothing.
 use mathlib.Core.Path.{ap, subst, ◌∙◌, ◌≡◌}
-use Prim.Native.Nat.{◌-◌}
 use native.Mathlib.Omega.{arith}
 use mir.Syntax.{w16}
 use lib.ListN.{length-set}

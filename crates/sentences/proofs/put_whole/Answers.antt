@@ -1,5 +1,4 @@
 -- `sentences::put_whole` meets its contract. Assumes nothing.
-use Prim.Native.Nat.{◌-◌}
 use native.Mathlib.Omega.{arith}
 use borrow.Author.Rules.{rules}
 use Rattle.sentences.proofs.PutLaws.{no_room, copying-begin, copying-byte, copying-done}

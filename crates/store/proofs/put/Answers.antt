@@ -4,7 +4,6 @@ use mathlib.Core.Bool.{true}
 use Rattle.std.specs.Prelude.{ℕ, ℤ, List, ◌≤◌, ◌<◌}
 use native.Mathlib.Omega.{arith}
 use lib.ListN.{length}
-use borrow.Author.Tests.{not-true, not-false}
 use borrow.Author.Rules.{rules}
 use Rattle.store.specs.Layout.{sizes, relation_limit, row_limit, column_limit, area}
 use Rattle.store.specs.Rows.{room, row_of}
@@ -12,7 +11,7 @@ use Rattle.store.proofs.StrideLaws.{room-limits, put-none, put-lent}
 use Rattle.store.proofs.put.Goals as goal
 
 limits : (work : List ℤ) (relation at width : ℕ) → room work relation at width ≡ true
-  → (relation < relation_limit) × (at < row_limit) × (width ≤ column_limit) × (area ≤ length work)
+    → (relation < relation_limit) × (at < row_limit) × (width ≤ column_limit) × (area ≤ length work)
 limits work relation at width e = room-limits sizes work relation at width e
 
 pub returns-then-not-room : goal.returns-then-not-room

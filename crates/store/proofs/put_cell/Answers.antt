@@ -1,6 +1,5 @@
 -- `store::put_cell` meets its contract. Assumes nothing.
 use borrow.Author.Rules.{rules}
-use borrow.Author.Tests.{not-true, not-false}
 use mir.Syntax.{w32}
 use mathlib.Core.Path.{sym, ◌∙◌}
 use Rattle.value.proofs.Fits.{back}

@@ -1,11 +1,9 @@
 -- `store::put_row` meets its contract. The loop has put the first c cells. Assumes nothing.
 use borrow.Author.Rules.{rules}
-use Prim.Native.Nat.{◌-◌}
-use mathlib.Core.Path.{◌≡◌, sym, ◌∙◌}
+use mathlib.Core.Path.{◌≡◌, ◌∙◌}
 use native.Mathlib.Omega.{arith}
-use lib.ListN.{length, length-map}
+use lib.ListN.{length}
 use Rattle.store.specs.Strides
-use Rattle.store.specs.Rows.{put_cells}
 use Rattle.store.proofs.RowLaws.{put_next}
 use Rattle.store.proofs.CellLaws.{put-cell-length}
 use Rattle.store.proofs.put_row.Goals as goal

@@ -2,7 +2,6 @@
 use Prim.Native.Nat.{◌-◌, ◌≤◌}
 use mathlib.Core.Path.{◌≡◌}
 use lib.ListN.{length}
-use Rattle.store.specs.Strides
 use Rattle.store.specs.Rows.{put_cells, row_of}
 use Rattle.store.proofs.put_row.Given as goal
 

@@ -1,7 +1,6 @@
 -- `store::with_value` meets its contract. Assumes nothing.
 use borrow.Author.Rules.{rules}
-use mathlib.Core.Path.{sym, ◌∙◌}
-use lib.ListN.{length-map}
+use mathlib.Core.Path.{sym}
 use native.Mathlib.Omega.{arith}
 use Rattle.value.specs.Machine.{value_of}
 use Rattle.store.specs.Rows.{row_of}

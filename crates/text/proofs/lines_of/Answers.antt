@@ -1,6 +1,5 @@
 -- `text::lines_of` meets its contract. Assumes nothing.
 use mathlib.Core.Path.{sym, ap, ◌∙◌}
-use Prim.Native.Nat.{◌-◌}
 use native.Mathlib.Omega.{arith}
 use Rattle.text.specs.Pair.{pair_told}
 use Rattle.text.proofs.Packed.{begin, empty-line, long-line, no-pair, one_byte, close-line, good-end, bad-end}

@@ -1,6 +1,5 @@
 -- `text::write_line` meets its contract. Assumes nothing.
 use lib.ListN.{length-set}
-use Prim.Native.Nat.{◌-◌}
 use native.Mathlib.Omega.{arith}
 use Rattle.text.proofs.Writing.{no_room, begin, next-byte, line-done}
 use Rattle.text.proofs.write_line.Goals as goal

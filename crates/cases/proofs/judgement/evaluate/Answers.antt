@@ -1,6 +1,5 @@
 -- `cases::judgement::evaluate` meets its contract. Assumes nothing.
 use mathlib.Core.Path.{refl}
-use Prim.Native.Nat.{◌-◌}
 use native.Mathlib.Omega.{arith}
 use borrow.Author.Rules.{rules}
 use Rattle.cases.proofs.JudgementLaws.{turned_none, turned_more, turned-all}

@@ -1,5 +1,4 @@
 -- `cases::judgement::note_rows` meets its contract. Assumes nothing.
-use borrow.Author.Tests.{not-true}
 use Rattle.cases.proofs.JudgementLaws.{rows-unneeded, rows-noted}
 use Rattle.cases.proofs.judgement.note_rows.Goals as goal
 

@@ -1,5 +1,4 @@
 -- `cases::judgement::note_sign` meets its contract. Assumes nothing.
-use borrow.Author.Tests.{not-true}
 use Rattle.cases.proofs.JudgementLaws.{sign-unasked, sign-noted}
 use Rattle.cases.proofs.judgement.note_sign.Goals as goal
 

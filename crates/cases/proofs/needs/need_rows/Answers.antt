@@ -1,7 +1,6 @@
 -- `cases::needs::need_rows` meets its contract. Assumes nothing.
 use mathlib.Core.Path.{refl}
 use native.Mathlib.Omega.{arith}
-use borrow.Author.Tests.{not-true, not-false}
 use Rattle.cases.proofs.NeedLaws.{rows-needed, rows-asked, rows-unasked, rows-of-set}
 use Rattle.cases.proofs.needs.need_rows.Goals as goal
 

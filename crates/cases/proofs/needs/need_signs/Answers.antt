@@ -1,6 +1,5 @@
 -- `cases::needs::need_signs` meets its contract. Assumes nothing.
 use native.Mathlib.Omega.{arith}
-use borrow.Author.Tests.{not-true, not-false}
 use Rattle.cases.proofs.NeedLaws.{signs-asked, signs-unasked, signs-of-own}
 use Rattle.cases.proofs.needs.need_signs.Goals as goal
 

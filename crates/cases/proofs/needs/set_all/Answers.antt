@@ -1,5 +1,4 @@
 -- `cases::needs::set_all` meets its contract. Assumes nothing.
-use Prim.Native.Nat.{◌-◌}
 use native.Mathlib.Omega.{arith}
 use Rattle.cases.proofs.FlagLaws.{all_none, all_more, all-full}
 use Rattle.cases.proofs.needs.set_all.Goals as goal

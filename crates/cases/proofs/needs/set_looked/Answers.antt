@@ -1,6 +1,5 @@
 -- `cases::needs::set_looked` meets its contract. Assumes nothing.
 use mathlib.Core.Path.{◌≡◌, refl, subst}
-use Prim.Native.Nat.{◌-◌}
 use native.Mathlib.Omega.{arith}
 use lib.ListN.{length}
 use borrow.Author.Rules.{rules}

@@ -1,6 +1,5 @@
 -- `cases::needs::set_names` meets its contract. Assumes nothing.
 use mathlib.Core.Path.{refl}
-use Prim.Native.Nat.{◌-◌}
 use native.Mathlib.Omega.{arith}
 use borrow.Author.Rules.{rules}
 use Rattle.cases.proofs.FlagLaws.{flag-low, flag-high, names-none, names_more, names-all}

@@ -1,8 +1,6 @@
 -- `cases::validity::agrees` meets its contract. Assumes nothing.
 use mathlib.Core.Path.{◌∙◌}
-use Prim.Native.Nat.{◌-◌}
 use native.Mathlib.Omega.{arith}
-use borrow.Author.Tests.{not-false, not-true}
 use Rattle.cases.proofs.ForeignLaws.{left-first, left-ends, left-fails, left-passes, left-none, pair_is}
 use Rattle.cases.proofs.validity.agrees.Goals as goal
 

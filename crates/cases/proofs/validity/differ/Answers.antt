@@ -1,9 +1,6 @@
 -- `cases::validity::differ` meets its contract. Assumes nothing.
 use mathlib.Core.Path.{sym, ◌∙◌}
-use mathlib.Core.Logic.{⊎_elim}
-use Prim.Native.Nat.{◌-◌}
 use native.Mathlib.Omega.{arith}
-use borrow.Author.Tests.{not-false, not-true}
 use Rattle.cases.proofs.KeyLaws.{rest-first, rest-stops, rest-same, rest-unmarked, rest-none}
 use Rattle.cases.proofs.validity.differ.Goals as goal
 use Rattle.cases.proofs.validity.differ.Goals.{else-left-eq1-via-then-left-eq1+else-not-same, else-left-eq1-via-else-left-eq1}
@@ -22,8 +19,8 @@ pub loop-c-preserved : goal.loop-c-preserved
 loop-c-preserved c = (
   omega arith,
   elim c.else-left-eq1.branch [
-    else-left-eq1-via-then-left-eq1+else-not-same u ↦ rest-same c.loop-c.invariant.1 c.loop-c-test.true c.cell-x.ensures c.cell-y.ensures (sym u.same.ensures ∙ u.if-not-same.false) |
-    else-left-eq1-via-else-left-eq1 u ↦ rest-unmarked c.loop-c.invariant.1 c.loop-c-test.true c.cell-x.ensures c.cell-y.ensures u.if-left-eq1.false
+    | else-left-eq1-via-then-left-eq1+else-not-same u ↦ rest-same c.loop-c.invariant.1 c.loop-c-test.true c.cell-x.ensures c.cell-y.ensures (sym u.same.ensures ∙ u.if-not-same.false)
+    | else-left-eq1-via-else-left-eq1 u ↦ rest-unmarked c.loop-c.invariant.1 c.loop-c-test.true c.cell-x.ensures c.cell-y.ensures u.if-left-eq1.false
   ],
 )
 

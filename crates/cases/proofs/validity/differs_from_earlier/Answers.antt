@@ -1,9 +1,6 @@
 -- `cases::validity::differs_from_earlier` meets its contract. Assumes nothing.
 use mathlib.Core.Path.{sym, ◌∙◌}
-use mathlib.Core.Bool.{true}
-use Prim.Native.Nat.{◌-◌}
 use native.Mathlib.Omega.{arith}
-use borrow.Author.Tests.{not-false, not-true}
 use Rattle.cases.proofs.RowTests.{all-below-none, all-below-next, all-below-whole, all-below-stops}
 use Rattle.cases.proofs.KeyLaws.{earlier-is}
 use Rattle.cases.proofs.validity.differs_from_earlier.Goals as goal

@@ -1,8 +1,6 @@
 -- `cases::validity::foreign_keys_hold` meets its contract. Assumes nothing.
 use mathlib.Core.Path.{◌∙◌}
-use Prim.Native.Nat.{◌-◌}
 use native.Mathlib.Omega.{arith}
-use borrow.Author.Tests.{not-false, not-true}
 use Rattle.cases.proofs.ForeignLaws.{left-first, left-ends, left-fails, left-passes, left-none, held-there, next-there}
 use Rattle.cases.proofs.validity.foreign_keys_hold.Goals as goal
 

@@ -1,7 +1,5 @@
 -- `cases::validity::has_parent` meets its contract. Assumes nothing.
 use mathlib.Core.Path.{sym, ◌∙◌}
-use mathlib.Core.Bool.{false}
-use Prim.Native.Nat.{◌-◌}
 use native.Mathlib.Omega.{arith}
 use Rattle.cases.proofs.RowTests.{any-below-none, any-below-next, any-below-whole, any-below-found}
 use Rattle.cases.proofs.validity.has_parent.Goals as goal

@@ -1,5 +1,4 @@
 -- `cases::validity::is_valid` meets its contract. Assumes nothing.
-use borrow.Author.Tests.{not-false, not-true}
 use Rattle.cases.proofs.ValidLaws.{invalid-keys, valid-both}
 use Rattle.cases.proofs.validity.is_valid.Goals as goal
 

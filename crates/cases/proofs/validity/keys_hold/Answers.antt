@@ -1,9 +1,6 @@
 -- `cases::validity::keys_hold` meets its contract. Assumes nothing.
 use mathlib.Core.Path.{sym, ◌∙◌}
-use mathlib.Core.Bool.{true}
-use Prim.Native.Nat.{◌-◌}
 use native.Mathlib.Omega.{arith}
-use borrow.Author.Tests.{not-false, not-true}
 use Rattle.cases.proofs.RowTests.{all-below-none, all-below-next, all-below-whole, all-below-stops}
 use Rattle.cases.proofs.KeyLaws.{key-there}
 use Rattle.cases.proofs.validity.keys_hold.Goals as goal

@@ -1,6 +1,5 @@
 -- `catalog::outline::count_tables` meets its contract. Assumes nothing.
 use mathlib.Core.Path.{refl}
-use Prim.Native.Nat.{◌-◌}
 use native.Mathlib.Omega.{arith}
 use borrow.Author.Rules.{rules}
 use Rattle.catalog.proofs.TableLaws.{counted_none, counted-more, counted-all}

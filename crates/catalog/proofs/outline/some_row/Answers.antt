@@ -1,5 +1,4 @@
 -- `catalog::outline::some_row` meets its contract. Assumes nothing.
-use Prim.Native.Nat.{◌-◌}
 use native.Mathlib.Omega.{arith}
 use Rattle.catalog.proofs.TableLaws.{bare-none, bare-more, filled-some, filled_none}
 use Rattle.catalog.proofs.outline.some_row.Goals as goal

@@ -1,6 +1,5 @@
 -- `checker::entries::candidates_of` meets its contract. Assumes nothing.
 use mathlib.Core.Path.{sym, ap, ◌∙◌}
-use Prim.Native.Nat.{◌-◌}
 use native.Mathlib.Omega.{arith}
 use Rattle.checker.specs.CandidateCount.{capped_product, cells_from}
 use Rattle.checker.proofs.CandidateLaws.{all_left, file-turn, no-tables, counted}

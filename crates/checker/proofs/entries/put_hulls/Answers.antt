@@ -1,6 +1,5 @@
 -- `checker::entries::put_hulls` meets its contract. Assumes nothing.
 use mathlib.Core.Path.{◌≡◌, refl, ap, ap₂, ◌∙◌}
-use Prim.Native.Nat.{◌-◌}
 use native.Mathlib.Omega.{arith}
 use lib.ListN.{length}
 use Rattle.range.specs.Ranges.{hull_of}

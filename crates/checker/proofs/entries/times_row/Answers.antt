@@ -1,6 +1,6 @@
 -- `checker::entries::times_row` meets its contract. Assumes nothing.
 use mathlib.Core.Path.{sym, ap, ◌∙◌}
-use Prim.Native.Nat.{◌-◌, ◌*◌, min}
+use Prim.Native.Nat.{◌*◌, min}
 use native.Mathlib.Omega.{arith}
 use Rattle.value.specs.Value.{size}
 use Rattle.checker.specs.CandidateCount.{too_many, capped_product, columns_from}

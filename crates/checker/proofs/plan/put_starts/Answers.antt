@@ -1,5 +1,4 @@
 -- `checker::plan::put_starts` meets its contract. Assumes nothing.
-use Prim.Native.Nat.{◌-◌}
 use native.Mathlib.Omega.{arith}
 use Rattle.checker.proofs.WalkLaws.{starts_none, starts_more, starts-full}
 use Rattle.checker.proofs.plan.put_starts.Goals as goal

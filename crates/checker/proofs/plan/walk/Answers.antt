@@ -1,7 +1,6 @@
 -- `checker::plan::walk` meets its contract. Assumes nothing.
 use native.Mathlib.Omega.{arith}
 use mathlib.Core.Path.{refl, ap}
-use Prim.Native.Nat.{◌-◌}
 use lib.ListN.{length}
 use borrow.Author.Rules.{rules}
 use Rattle.catalog.proofs.FrameLaws.{frame-short}

@@ -1,5 +1,4 @@
 -- `checker::step::body_step` meets its contract. Assumes nothing.
-use mathlib.Core.Logic.{⊎_elim}
 use native.Mathlib.Omega.{arith}
 use Rattle.checker.proofs.StepLaws.{turned_same, turned-view, turned_set, turned-other}
 use Rattle.checker.proofs.step.body_step.Goals as goal
@@ -20,6 +19,6 @@ returns-in-5 c = turned_set _ c.in-5.if-kind-lt5-own.false c.in-5.if-kind-lt7-ow
 
 pub returns-in_default : goal.returns-in_default
 returns-in_default c = elim c.in_default.branch [
-  in_default-via-then-kind-lt1 w ↦ turned-other _ (λ a b. omega arith) c.goal_step.ensures |
-  in_default-via-else-kind-lt1+else-kind-lt5+else-kind-lt7 w ↦ turned-other _ (λ a b. omega arith) c.goal_step.ensures
+  | in_default-via-then-kind-lt1 w ↦ turned-other _ (λ a b. omega arith) c.goal_step.ensures
+  | in_default-via-else-kind-lt1+else-kind-lt5+else-kind-lt7 w ↦ turned-other _ (λ a b. omega arith) c.goal_step.ensures
 ]

@@ -1,5 +1,4 @@
 -- `look::buffers::clear` meets its contract. Assumes nothing.
-use Prim.Native.Nat.{◌-◌}
 use native.Mathlib.Omega.{arith}
 use Rattle.look.proofs.BufferLaws.{clearing-none, clearing-more, clearing-all}
 use Rattle.look.proofs.buffers.clear.Goals as goal

@@ -1,6 +1,5 @@
 -- `look::buffers::show` meets its contract. Assumes nothing.
 use mathlib.Core.Path.{◌∙◌}
-use Prim.Native.Nat.{◌-◌}
 use native.Mathlib.Omega.{arith}
 use mir.Syntax.{w16}
 use Rattle.value.proofs.Fits.{back}

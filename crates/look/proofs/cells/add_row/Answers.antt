@@ -1,6 +1,5 @@
 -- `look::cells::add_row` meets its contract. Assumes nothing.
 use mathlib.Core.Path.{refl}
-use Prim.Native.Nat.{◌-◌}
 use native.Mathlib.Omega.{arith}
 use borrow.Author.Rules.{rules}
 use Rattle.look.proofs.CodeLaws.{row-all, row-none, row_more}

@@ -1,5 +1,4 @@
 -- `look::cells::add_table` meets its contract. Assumes nothing.
-use Prim.Native.Nat.{◌-◌}
 use native.Mathlib.Omega.{arith}
 use Rattle.look.proofs.CodeLaws.{table-all, table_none, table_more, rows_few}
 use Rattle.look.proofs.cells.add_table.Goals as goal

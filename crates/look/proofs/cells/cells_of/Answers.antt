@@ -1,5 +1,4 @@
 -- `look::cells::cells_of` meets its contract. Assumes nothing.
-use Prim.Native.Nat.{◌-◌}
 use native.Mathlib.Omega.{arith}
 use Rattle.look.proofs.CodeLaws.{tables-all, tables-none, tables_more, tables-few}
 use Rattle.look.proofs.cells.cells_of.Goals as goal

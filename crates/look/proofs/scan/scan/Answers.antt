@@ -1,5 +1,4 @@
 -- `look::scan::scan` meets its contract. Assumes nothing.
-use Prim.Native.Nat.{◌-◌}
 use native.Mathlib.Omega.{arith}
 use Rattle.look.proofs.ScanLaws.{scanned-none, scanned-more, scanned-found, scanned-all}
 use Rattle.look.proofs.scan.scan.Goals as goal

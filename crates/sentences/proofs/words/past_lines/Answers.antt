@@ -1,6 +1,4 @@
 -- `sentences::words::past_lines` meets its contract. Assumes nothing.
-use mathlib.Core.Logic.{⊎_elim}
-use Prim.Native.Nat.{◌-◌}
 use native.Mathlib.Omega.{arith}
 use borrow.Author.Rules.{rules}
 use Rattle.sentences.proofs.PutLaws.{passing-begin, passing-break, passing-byte, passing-short, passing-done}

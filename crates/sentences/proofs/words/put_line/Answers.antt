@@ -1,5 +1,4 @@
 -- `sentences::words::put_line` meets its contract. Assumes nothing.
-use Prim.Native.Nat.{◌-◌}
 use native.Mathlib.Omega.{arith}
 use borrow.Author.Rules.{rules}
 use Rattle.sentences.proofs.PutLaws.{lining-begin, lining-room, lining-byte, lining-break, lining-done}

@@ -1,5 +1,4 @@
 -- `views::ends::behind` meets its contract. Assumes nothing.
-use Prim.Native.Nat.{◌-◌}
 use native.Mathlib.Omega.{arith}
 use mathlib.Core.Path.{sym, ◌∙◌}
 use Rattle.views.proofs.Passing.{left_one, left-past, left_other, left-more, left-none, left-few}

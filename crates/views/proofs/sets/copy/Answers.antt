@@ -1,6 +1,5 @@
 -- `views::sets::copy` meets its contract. Assumes nothing.
 use mathlib.Core.Path.{refl}
-use Prim.Native.Nat.{◌-◌}
 use native.Mathlib.Omega.{arith}
 use borrow.Author.Rules.{rules}
 use Rattle.views.proofs.Copying.{copied_none, copied_all, copied-put}

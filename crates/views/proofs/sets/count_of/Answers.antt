@@ -1,6 +1,5 @@
 -- `views::sets::count_of` meets its contract. Assumes nothing.
 use mathlib.Core.Path.{ap, ◌∙◌}
-use Prim.Native.Nat.{◌-◌}
 use native.Mathlib.Omega.{arith}
 use Rattle.value.specs.Bag.{tick}
 use Rattle.store.specs.Rows.{row_in}

@@ -1,6 +1,5 @@
 -- `views::sets::intersection` meets its contract. Assumes nothing.
 use mathlib.Core.Path.{refl}
-use Prim.Native.Nat.{◌-◌}
 use native.Mathlib.Omega.{arith}
 use borrow.Author.Rules.{rules}
 use Rattle.views.proofs.Intersecting.{shared-none, shared-more, shared-all}

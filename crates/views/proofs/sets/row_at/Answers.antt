@@ -1,5 +1,4 @@
 -- `views::sets::row_at` meets its contract. Assumes nothing.
-use Prim.Native.Nat.{◌-◌}
 use native.Mathlib.Omega.{arith}
 use Rattle.views.proofs.Copying.{row-start, row_step, row-whole}
 use Rattle.views.proofs.sets.row_at.Goals as goal

@@ -1,9 +1,6 @@
 -- `views::sets::same_rows` meets its contract. Assumes nothing.
 use mathlib.Core.Path.{sym, ◌∙◌}
-use mathlib.Core.Bool.{true}
-use Prim.Native.Nat.{◌-◌}
 use native.Mathlib.Omega.{arith}
-use borrow.Author.Tests.{not-false, not-true}
 use Rattle.views.proofs.Intersecting.{alike-none, alike-more, alike-stops, alike-whole}
 use Rattle.views.proofs.sets.same_rows.Goals as goal
 
