@@ -10,17 +10,14 @@ ghost use Rattle.sentences.specs.Answers.{Put};
 use checker::plan;
 use input::Input;
 use sentences;
-
-const STDOUT: i32 = 1;
-
-const STDERR: i32 = 2;
+use std::io::Read;
 
 // The input, of which a buffer of this size settles the sheet: a full one is refused whatever follows.
-fn read_text(text: &mut [u8]) -> Input
+fn read_text<R: Read>(from: &mut R, text: &mut [u8]) -> Input
     requires { input_room ≤ length text.old }
     ensures { Reads (length text.new) result }
 {
-    input::read(text)
+    input::read(from, text)
 }
 
 // The sheet of a text. The text is checked and nothing is searched.
@@ -34,36 +31,37 @@ fn sheet(text: &[u8], out: &mut [u8]) -> usize
     sentences::both_sentences(p.number, p.line, out)
 }
 
-fn say_unreadable() {
-    io::write_all(STDERR, b"sheet: the input cannot be read\n");
+// That the message cannot be written either is left unsaid.
+fn say_unreadable(rt: &impl Eprint) {
+    let _ = rt.eprintln("sheet: the input cannot be read");
 }
 
-fn say_unwritable() {
-    io::write_all(STDERR, b"sheet: the output cannot be written\n");
+fn say_unwritable(rt: &impl Eprint) {
+    let _ = rt.eprintln("sheet: the output cannot be written");
 }
 
 // Writes the sheet of a text.
-fn write_sheet(text: &[u8], bytes: &[u8])
+fn write_sheet(rt: &(impl Print + Eprint), text: &[u8], bytes: &[u8])
     requires { bytes.now ≡ sheet_of text.now }
 {
-    let is_written = io::write_all(STDOUT, bytes);
+    let is_written = rt.write_all(bytes).is_ok();
     if !is_written {
-        say_unwritable();
+        say_unwritable(rt);
     }
 }
 
-fn print_sheet(text: &[u8]) {
+fn print_sheet(rt: &(impl Print + Eprint), text: &[u8]) {
     let mut out = [0u8; sentences::SHEET];
     let n = sheet(text, &mut out);
-    write_sheet(text, &out[..n]);
+    write_sheet(rt, text, &out[..n]);
 }
 
-fn main() {
+fn main(rt: HostRuntime) {
     let mut text = [0u8; input::ROOM];
-    let input = read_text(&mut text);
+    let input = read_text(&mut rt.stdin(), &mut text);
     match input {
-        Input::More(n) => print_sheet(&text[..n]),
-        Input::End(n) => print_sheet(&text[..n]),
-        Input::Failed => say_unreadable(),
+        Input::More(n) => print_sheet(&rt, &text[..n]),
+        Input::End(n) => print_sheet(&rt, &text[..n]),
+        Input::Failed => say_unreadable(&rt),
     }
 }

@@ -1,25 +1,24 @@
 -- `input::read` meets its contract. Assumes nothing.
 use mathlib.Core.Path.{◌∙◌}
-use Prim.Native.Nat.{◌-◌}
 use native.Mathlib.Omega.{arith}
 use borrow.Author.Rules.{rules}
-use Rattle.input.proofs.InputLaws.{read-on, read-ended, neither, same-room}
+use Rattle.input.proofs.InputLaws.{read-on, read-ended, same-room}
 use Rattle.input.proofs.read.Goals as goal
 
 pub returns-in_default : goal.returns-in_default
-returns-in_default c =
+returns-in_default g c =
     let at = c.loop-done in
-    let same = same-room at.done at.text c.read-got.new.1.0 (search rules) in
-    rw same (read-ended _ _ _ c.next-input.ensures (search rules) (λ n p. neither (rw p at c.in-More.keys2)))
+    let same = same-room at.done at.text c.read.new.buf (search rules) in
+    rw same (read-ended _ _ _ c.next-input.ensures (search rules) c.in_default.not-More)
 
 pub loop-done-smaller : goal.loop-done-smaller
-loop-done-smaller c =
+loop-done-smaller g c =
     let (further, within) = read-on _ _ _ c.next-input.ensures (search rules) c.in-More.is in
     omega (arith, c.loop-done.invariant.1)
 
 pub loop-done-preserved : goal.loop-done-preserved
-loop-done-preserved c =
+loop-done-preserved g c =
     let (further, within) = read-on _ _ _ c.next-input.ensures (search rules) c.in-More.is in
     let at = c.loop-done in
-    let same = same-room at.done at.text c.read-got.new.1.0 (search rules) in
+    let same = same-room at.done at.text c.read.new.buf (search rules) in
     (omega arith, same ∙ at.invariant.1)
