@@ -2,7 +2,6 @@
 use mathlib.Core.Path.{◌≡◌, refl, sym, ap₂, ◌∙◌}
 use mathlib.Core.List.{List, []}
 use Prim.Native.Nat.{ℕ}
-use native.Mathlib.Omega.{arith}
 use Rattle.language.specs.Check.{Outcome}
 use Rattle.language.specs.FileOf.{file_of}
 use Rattle.catalog.specs.declared.plan.Plan.{Plan}
