@@ -3,6 +3,7 @@
 `.ci/edits` and tools/mutants/survey.py use it. The crates below keep their files and their built libraries by hard links; the changed crate
 begins with what checks of it kept in the checkout.
 """
+import collections
 import dataclasses
 import os
 import pathlib
@@ -53,13 +54,15 @@ class Function:
 
 
 def functions(crate):
-    """The functions of a crate. Those of a cycle of calls have one proof, in which the name of each goal begins with its function's."""
+    """The functions of a crate, but for those of its tests, which stand last in a file. Those of a cycle of calls have one proof, in which the name of each goal begins with its function's."""
     found = []
     folder = root / "crates" / crate
     for source in sorted((folder / "src").glob("*.rt")):
         module, owner, cycle = [] if source.stem in ("lib", "main") else [source.stem], [], None
         for number, line in enumerate(source.read_text().split("\n")):
-            if kind := re.match(r"impl (\w+)", line):
+            if line == "#[cfg(test)]":
+                break
+            elif kind := re.match(r"impl (\w+)", line):
                 owner = [kind[1]]
             elif line == "}":
                 owner = []
@@ -123,20 +126,18 @@ class Refusals:
     """What the prover refused, by its words."""
 
     def __init__(self, crate, log):
-        # of a folder of proofs/, or a file of laws: the names of what was refused there, at a fact and for a name that is gone
-        self.facts, self.gone = {}, {}
-        # of a folder of proofs/: the goals that nothing answers, and those of them that are false of some values
-        self.open, self.false = {}, {}
+        # of a folder of proofs/, or a file of laws: the names of what was refused there, at a fact and for a name that is gone; and those of
+        # the goals for which the check found values at which they are false
+        self.facts, self.gone, self.false = (collections.defaultdict(set) for _ in range(3))
         self.is_proved = bool(re.search(r"^logic=proved ", log, re.M))
         self.is_refused = bool(re.search(r"^logic=not-proved$", log, re.M))
         places = {function.path.replace("/", "::"): function.place for function in functions(crate)}
         goals, false = set(), set()
         for line in log.splitlines():
             if error := re.match(r"(?:\./)?(?:proofs|specs)/(.+?)(?:/(?:Answers|Invariants|Proof))?\.antt:\d+:\d+: error: `([^`]*)`: (.*)", line):
-                where = self.gone if GONE.search(error[3]) else self.facts
-                where.setdefault(error[1], set()).add(error[2])
+                (self.gone if GONE.search(error[3]) else self.facts)[error[1]].add(error[2])
             elif note := re.match(r"note: src/\S+: it is not proved that .* \(`([^`]*)`\)(.*)", line):
-                # (the line of its function follows)
+                # (a goal that no tactic proves; the line of its function follows)
                 goals.add(note[1])
                 if "this goal is false" in note[2]:
                     false.add(note[1])
@@ -144,19 +145,15 @@ class Refusals:
                 if found := re.search(r"`search` did not prove ((?:`[^`]*`(?:, | and )?)+)", said[2]):
                     goals.update(re.findall(r"`([^`]*)`", found[1]))
                 place = places.get(said[1], said[1])
-                self.open.setdefault(place, set()).update(goals)
-                self.false.setdefault(place, set()).update(false)
+                if not said[2].startswith("could not tell"):
+                    self.facts[place] |= goals
+                    self.false[place] |= false
                 goals, false = set(), set()
 
     def of_function(self, function):
-        """The goals of a function that were refused at a fact: its answer does not prove it, or no tactic does. Where an answer names what
-        is gone, a goal that nothing answers may lack no more than that answer, so it counts where it is false of some values."""
-
-        def own(found):
-            return {name for name in found.get(function.place, ()) if name.startswith(function.goals)}
-
-        return own(self.facts) | own(self.false if own(self.gone) else self.open)
+        """The goals of a function that were refused at a fact: its answer does not prove it, or no tactic does."""
+        return {name for name in self.facts[function.place] if name.startswith(function.goals)}
 
     def of_laws(self, file, law):
         """The laws of a file that were refused at a fact: all of them, or those of one name and its parts."""
-        return {name for name in self.facts.get(file, ()) if not law or name == law or name.startswith(law + "-")}
+        return {name for name in self.facts[file] if not law or name == law or name.startswith(law + "-")}

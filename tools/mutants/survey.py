@@ -1,7 +1,7 @@
 #!/usr/bin/env python3
 """Changes one operator or one number of a crate's code at a time, and says which changes its contracts do not refuse.
 
-    rt check && python3 tools/mutants/survey.py CRATE..
+    (cd crates/CRATE && rt check) && python3 tools/mutants/survey.py CRATE
 
 Every function has a list of changes. A round makes one change in each function and proves the crate in a copy; the functions of a cycle of calls
 have one proof and count as one. A change is refused where its own function's proof stops at a fact. It is not where only a function that it
@@ -11,25 +11,17 @@ only, which show nothing. It takes minutes for each crate.
 """
 import collections
 import pathlib
-import platform
 import re
-import shutil
-import subprocess
 import sys
 import tempfile
 
-root = pathlib.Path(__file__).resolve().parents[2]
-kit = pathlib.Path(subprocess.run(["rt", "doc"], capture_output=True, text=True, check=True).stdout.strip()).parents[1]
-own = kit / "on" / platform.machine()
+sys.dont_write_bytecode = True
+sys.path.insert(0, str(pathlib.Path(__file__).resolve().parents[1]))
+from room import Refusals, Room, functions  # noqa: E402
 
 SWAPS = [("<", "<="), ("<=", "<"), (">", ">="), (">=", ">"), ("==", "!="), ("!=", "=="), ("+", "-"), ("-", "+"), ("*", "+"), ("/", "%"), ("%", "/"),
          ("&&", "||"), ("||", "&&"), ("&", "|"), ("+=", "-="), ("-=", "+=")]
 NUMBER = re.compile(r"(?<![\w.])(0x[0-9a-fA-F_]+|\d[\d_]*)((?:[ui](?:8|16|32|64|size))?)\b")
-
-
-def uses(crate):
-    """The crates that a crate names in crates.txt."""
-    return re.search(rf"^{crate}:(.*)", (root / "crates.txt").read_text(), re.M)[1].split()
 
 
 def changes(line):
@@ -48,77 +40,52 @@ def changes(line):
         yield line[: m.start()] + line[m.end() :]
 
 
+def at_a_fact(function, refusals):
+    """Whether a function is refused, and not for its shape. Where its answers name what is gone, a goal that is not proved may lack its answer,
+    unless it is false of some values."""
+    gone = any(name.startswith(function.goals) for name in refusals.gone[function.place])
+    facts = (refusals.false if gone else refusals.facts)[function.place]
+    return any(name.startswith(function.goals) for name in facts)
+
+
 class Crate:
-    def __init__(self, name, room):
-        self.name, self.dir = name, room / name
-        for part in ("src", "specs", "proofs"):
-            if (root / "crates" / name / part).is_dir():
-                shutil.copytree(root / "crates" / name / part, self.dir / part)
-        self.sources = {p: p.read_text().split("\n") for p in sorted((self.dir / "src").glob("*.rt"))}
-        main = self.dir / "src" / "main.rt"
-        built = root / "target" / "rlib"
-        libraries = [(d, built if (built / f"{d}.rlib").exists() else own / "rlib") for d in uses(name)]
-        self.command = [
-            str(own / "bin" / "rattle"), "check", "--crate-name", name, str(main if main.exists() else main.with_name("lib.rt")),
-            "--extern", f"std={own}/rlib/std.rlib",
-            *(word for d, place in libraries for word in ("--extern", f"{d}={place}/{d}.rlib")),
-            "-L", f"dependency={built}", "-L", f"dependency={own}/rlib",
-            "--antt-project", f"{kit}/logic/antt-project.json", "--logic-built", f"{own}/logic-built", "--incremental", str(room / f"{name}.kept"),
-        ]
-        (room / f"{name}.kept").mkdir()
+    def __init__(self, name, folder):
+        self.name, self.room = name, Room(name, folder)
+        self.sources = {p.relative_to(self.room.inside): p.read_text().split("\n") for p in sorted((self.room.inside / "src").glob("*.rt"))}
         self.met = collections.Counter()
 
-    def functions(self):
-        """Each function by the folder of its proof, with its file and the lines of its body."""
-        proofs = self.dir / "proofs"
-        cycles = {str(d.parent.relative_to(proofs) / f): str(d.relative_to(proofs)) for d in proofs.rglob("+*") for f in d.name.strip("+").split("+")}
-        for path, lines in self.sources.items():
-            owner, i = [], 0
-            while i < len(lines):
-                if kind := re.match(r"impl (\w+)", lines[i]):
-                    owner = [kind[1]]
-                elif lines[i] == "}":
-                    owner = []
-                if head := re.match(r'(\s*)(?:pub(?:\(crate\))? )?(?:extern "C" )?fn (\w+)', lines[i]):
-                    while not (lines[i] == head[1] + "{" or re.match(re.escape(head[1]) + r"(\S.*)?\) .*\{$|.*fn .*\) *\{$", lines[i])):
-                        i += 1
-                    first = i + 1
-                    while lines[i] != head[1] + "}":
-                        i += 1
-                    module = [] if path.stem in ("lib", "main") else [path.stem]
-                    place = "/".join(module + owner + [head[2]])
-                    yield place, cycles.get(place, place), path, range(first, i)
-                i += 1
+    def body(self, function):
+        """The lines of a function's body."""
+        lines, i = self.sources[function.source], function.line
+        space = re.match(r"\s*", lines[i])[0]
+        while not (lines[i] == space + "{" or re.match(re.escape(space) + r"(\S.*)?\) .*\{$|.*fn .*\) *\{$", lines[i])):
+            i += 1
+        first = i + 1
+        while lines[i] != space + "}":
+            i += 1
+        return range(first, i)
 
     def prove(self, made):
         """What the prover says of the crate with these changes."""
         for path, lines in self.sources.items():
             now = list(lines)
-            for _, _, where, n, line in made:
-                if where == path:
-                    now[n] = line
-            path.write_text("\n".join(now))
-        run = subprocess.run(self.command, capture_output=True, text=True)
-        return run.returncode, run.stdout + run.stderr
-
-    def at_a_fact(self, change, log):
-        """Whether the change's own function is refused, and not for its shape."""
-        place, proof = change[:2]
-        said = re.findall(rf"/proofs/{re.escape(proof)}(?:/Proof)?\.antt:\d+:\d+: error: (.*)", log)
-        said = [s for s in said if not re.search(r"was not admitted|has no `|has no field|is not in scope", s)]
-        return bool(said) or bool(re.search(rf"^fn {self.name}::{place.replace('/', '::')}: no proof: .*`search` does not close", log, re.M))
+            for _, n, line in (c for c in made if c[0].source == path):
+                now[n] = line
+            (self.room.inside / path).write_text("\n".join(now))
+        log = self.room.check()
+        return Refusals(self.name, log), log
 
     def judge(self, made):
         """What becomes of each change: no program, refused, refused for its shape, or not refused."""
         while made:
-            status, log = self.prove(made)
-            if status == 0:
+            refusals, log = self.prove(made)
+            if refusals.is_proved:
                 return self.note("not refused", made)
-            if re.search(r"^logic=not-proved", log, re.M):
-                told, what = [c for c in made if self.at_a_fact(c, log)], "refused"
+            if refusals.is_refused:
+                told, what = [c for c in made if at_a_fact(c[0], refusals)], "refused"
             else:
-                named = {(p, int(n) - 1) for p, n in re.findall(r"/src/(\w+\.rt):(\d+):", log)}
-                told, what = [c for c in made if (c[2].name, c[3]) in named], "no program"
+                named = {(p, int(n) - 1) for p, n in re.findall(r"\b(src/\w+\.rt):(\d+):", log)}
+                told, what = [c for c in made if (str(c[0].source), c[1]) in named], "no program"
             if not told and len(made) == 1:
                 return self.note("shape" if what == "refused" else what, made)
             if not told:
@@ -130,17 +97,18 @@ class Crate:
 
     def note(self, what, made):
         self.met[what] += len(made)
-        for place, _, path, n, line in made:
+        for function, n, line in made:
             if what in ("not refused", "shape"):
-                print(f"{what}: {self.name} {place} {path.name}:{n + 1}: {self.sources[path][n].strip()}  =>  {line.strip()}", flush=True)
+                old = self.sources[function.source][n].strip()
+                print(f"{what}: {self.name} {function.path} {function.source.name}:{n + 1}: {old}  =>  {line.strip()}", flush=True)
 
     def survey(self):
         pending = {}
-        for place, proof, path, body in self.functions():
-            for n in body:
-                pending.setdefault(proof, []).extend((place, proof, path, n, line) for line in changes(self.sources[path][n]))
-        status, log = self.prove([])
-        if status:
+        for function in functions(self.name):
+            for n in self.body(function):
+                pending.setdefault(function.place, []).extend((function, n, line) for line in changes(self.sources[function.source][n]))
+        refusals, log = self.prove([])
+        if not refusals.is_proved:
             sys.exit(f"{self.name} is not proved as it is:\n{log[-2000:]}")
         while any(pending.values()):
             self.judge([c.pop(0) for c in pending.values() if c])
@@ -148,5 +116,5 @@ class Crate:
 
 
 for crate in sys.argv[1:]:
-    with tempfile.TemporaryDirectory() as room:
-        Crate(crate, pathlib.Path(room)).survey()
+    with tempfile.TemporaryDirectory() as folder:
+        Crate(crate, pathlib.Path(folder) / "room").survey()
