@@ -1,5 +1,5 @@
 /* A look at a rule file, and refusals as sentences, by proved functions on plain numbers. Link with libexport.a, which
- * `rt staticlib export` writes to target/staticlib/. No function has a precondition: any text, any lengths, any start and any count are
+ * `.ci/libraries export` writes to target/staticlib/. No function has a precondition: any text, any lengths, any start and any count are
  * answered. A slice is a pointer and the number of its elements; the pointer of an empty slice may be null. The slices lent to one call
  * must not overlap, each must be as long as the caller says, and SAKTHVEIM_STACK bytes of stack must be left: nothing else is asked of a
  * caller. */

@@ -1,4 +1,4 @@
-//! Links the static library that `rt staticlib export` writes.
+//! Links the static library that `.ci/libraries export` writes.
 use std::path::PathBuf;
 
 fn main() {

@@ -1,4 +1,4 @@
-//! Links the static library that `rt staticlib trial` writes.
+//! Links the static library that `.ci/libraries trial` writes.
 use std::path::PathBuf;
 
 fn main() {

@@ -1,7 +1,7 @@
 #!/usr/bin/env python3
 """An outside check of the meaning: every view's bag of rows, and the verdict, beside PostgreSQL's.
 
-    rt staticlib trial
+    .ci/libraries trial
     python3 tools/outside/check.py [--files N] [--databases N] [--seed N] [PATH ...]
 
 Our rows and verdicts come from the proved evaluator, through compare/evaluation/examples/databases.rs, for the marked
@@ -295,7 +295,7 @@ def example_files():
 def evaluated(options, paths):
     """The texts with our rows and verdicts."""
     if not (HOME / "target/staticlib/libtrial.a").exists():
-        raise Failure("target/staticlib/libtrial.a is not there: run `rt staticlib trial` first")
+        raise Failure("target/staticlib/libtrial.a is not there: run `.ci/libraries trial` first")
     words = ["cargo", "run", "--release", "--offline", "--quiet", "--manifest-path", HOME / "compare/Cargo.toml"]
     words += ["-p", "evaluation", "--example", "databases", "--"]
     words += [options.seed, options.files, options.databases, *paths]

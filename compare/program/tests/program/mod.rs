@@ -78,7 +78,7 @@ impl Program {
         let path = Path::new(env!("CARGO_MANIFEST_DIR")).join(format!("../../target/bin/{name}"));
         assert!(
             path.exists(),
-            "target/bin/{name} is not there: run `rt check {name}` first"
+            "target/bin/{name} is not there: run `.ci/libraries {name}` first"
         );
         path
     }
