@@ -134,8 +134,12 @@ class Refusals:
         places = {function.path.replace("/", "::"): function.place for function in functions(crate)}
         goals, false = set(), set()
         for line in log.splitlines():
-            if error := re.match(r"(?:\./)?(?:proofs|specs)/(.+?)(?:/(?:Answers|Invariants|Proof))?\.antt:\d+:\d+: error: `([^`]*)`: (.*)", line):
-                (self.gone if GONE.search(error[3]) else self.facts)[error[1]].add(error[2])
+            if error := re.match(r"(?:\./)?(?:proofs|specs)/(.+?)(?:/(?:Answers|Invariants|Proof))?\.antt:\d+:\d+: error: (?:`([^`]*)`: )?(.*)", line):
+                # (a `use` line that names what is gone has no name of its own)
+                if GONE.search(error[3]):
+                    self.gone[error[1]].add(error[2] or "its use lines")
+                elif error[2]:
+                    self.facts[error[1]].add(error[2])
             elif note := re.match(r"note: src/\S+: it is not proved that .* \(`([^`]*)`\)(.*)", line):
                 # (a goal that no tactic proves; the line of its function follows)
                 goals.add(note[1])

@@ -43,7 +43,7 @@ def changes(line):
 def at_a_fact(function, refusals):
     """Whether a function is refused, and not for its shape. Where its answers name what is gone, a goal that is not proved may lack its answer,
     unless it is false of some values."""
-    gone = any(name.startswith(function.goals) for name in refusals.gone[function.place])
+    gone = any(name.startswith((function.goals, "its use lines")) for name in refusals.gone[function.place])
     facts = (refusals.false if gone else refusals.facts)[function.place]
     return any(name.startswith(function.goals) for name in facts)
 
