@@ -133,7 +133,8 @@ class Refusals:
         self.is_refused = bool(re.search(r"^logic=not-proved$", log, re.M))
         places = {function.path.replace("/", "::"): function.place for function in functions(crate)}
         goals, false = set(), set()
-        for line in log.splitlines():
+        # a message may run over lines that begin with two spaces
+        for line in re.sub(r"\n(?=  )", " ", log).splitlines():
             if error := re.match(r"(?:\./)?(?:proofs|specs)/(.+?)(?:/(?:Answers|Invariants|Proof))?\.antt:\d+:\d+: error: (?:`([^`]*)`: )?(.*)", line):
                 # (a `use` line that names what is gone has no name of its own)
                 if GONE.search(error[3]):
