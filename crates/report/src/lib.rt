@@ -17,8 +17,8 @@ pub const ROOM: usize = 2171;
 
 // The bytes of n cells from `first` on, behind the first three of a frame.
 fn put_cells(cells: &[i16], first: usize, n: usize, frame: &mut [u8])
-    requires n_in_bounds { first + n ≤ length cells.now }
-    requires n_in_bounds_2 { 3 + 2 * n ≤ length frame.old }
+    requires in_cells { first + n ≤ length cells.now }
+    requires in_frame { 3 + 2 * n ≤ length frame.old }
     ensures { CellsPut cells.now first n frame.old frame.new }
 {
     let mut i = 0;

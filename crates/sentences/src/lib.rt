@@ -60,8 +60,8 @@ fn first_text(named: bool) -> usize
 
 // Entry n of the sentences behind a line, or of those without one.
 fn put_text(language: u8, named: bool, n: u8, out: &mut [u8], at: usize) -> usize
-    requires n_bound { n < 19 }
-    requires n_in_bounds { at + length (get_or (texts_of named (language_of language)) n []) ≤ length out.old }
+    requires known { n < 19 }
+    requires room { at + length (get_or (texts_of named (language_of language)) n []) ≤ length out.old }
     ensures { Over (get_or (texts_of named (language_of language)) n []) at out.old result out.new }
 {
     let first = first_text(named);

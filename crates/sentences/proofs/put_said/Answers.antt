@@ -9,8 +9,8 @@ pub put_text-requires : goal.put_text-requires
 put_text-requires c =
     let a = c.args in
     let k = sym c.is_known.ensures ∙ c.if-is_known.true in record {
-      n_bound = known_small a.language a.named a.number k;
-      n_in_bounds = known-room a.language a.named a.number k a.at a.out.now c.requires;
+      known = known_small a.language a.named a.number k;
+      room = known-room a.language a.named a.number k a.at a.out.now c.requires;
     }
 
 pub returns-then-is_known : goal.returns-then-is_known
@@ -23,7 +23,7 @@ pub put_text-a-requires : goal.put_text-a-requires
 put_text-a-requires c =
     let a = c.args in
     let k = sym c.is_known.ensures ∙ c.if-is_known.false in
-    record { n_bound = omega arith; n_in_bounds = first-room a.language a.named a.number k a.at a.out.now c.requires }
+    record { known = omega arith; room = first-room a.language a.named a.number k a.at a.out.now c.requires }
 
 pub put_figures-b-requires : goal.put_figures-b-requires
 put_figures-b-requires c =

@@ -14,13 +14,13 @@ put_piece-requires c =
     let a = c.args in
     omega (
       arith,
-      c.requires.n_in_bounds,
-      ap length (text-piece a.language a.n a.named c.first_text-first.ensures c.requires.n_bound),
+      c.requires.room,
+      ap length (text-piece a.language a.n a.named c.first_text-first.ensures c.requires.known),
     )
 
 pub returns : goal.returns
 returns c =
     let a = c.args in
     over-same
-    (sym (text-piece a.language a.n a.named c.first_text-first.ensures c.requires.n_bound))
+    (sym (text-piece a.language a.n a.named c.first_text-first.ensures c.requires.known))
     c.put_piece.ensures
