@@ -1,6 +1,8 @@
 // From text to frames, and from a frame to its line of text.
 #![tactic(auto)]
 
+pub mod refusal;
+
 ghost use Rattle.std.specs.Prelude.{◌≡◌, ◌≤◌, ◌<◌, length, drop};
 ghost use Rattle.text.specs.Text.{hex_value, hex_digit, lines_of, frames_of};
 ghost use Rattle.text.specs.Pair.{pair_of, pair_told};

@@ -1,0 +1,40 @@
+// A refusal: which condition a text, a file or a call meets, and the line.
+ghost use Rattle.std.specs.Prelude.{◌≡◌};
+ghost use Rattle.text.specs.Refusals.{number_of};
+
+// The conditions of a refusal, by their numbers: a text's size and its lines; of a frame its kind's place in the order, its form, a field's limits,
+// what it refers to, the rule on aggregates, its row bound and its ranges; the number of candidates; and of a call the work area, the instance
+// buffer and the start.
+#[derive(Clone, Copy, PartialEq, Eq)]
+pub enum Reason {
+    Size = 1,
+    Line,
+    Order,
+    Form,
+    Limit,
+    Reference,
+    Aggregate,
+    RowBound,
+    Range,
+    Candidates,
+    WorkArea,
+    Instance,
+    Start,
+}
+
+impl Reason {
+    // The number that the caller sees.
+    // Refused: one less; 1 for each.
+    pub fn number(self) -> u8
+        ensures { result ≡ number_of self }
+    {
+        self as u8
+    }
+}
+
+// Line 0 stands where no line is said.
+#[derive(Clone, Copy, PartialEq, Eq)]
+pub struct Refusal {
+    pub reason: Reason,
+    pub line: u16,
+}
