@@ -12,7 +12,7 @@ ghost use Rattle.bounds.specs.Walk.{places_from, permitted_of, inside_of, where_
 use catalog::arrays;
 use catalog::items::{Items, opened, relation};
 use range::{Range, Ranged};
-use slice::byte_at;
+use slice::item_at;
 use value::integer;
 
 // Where an expression stands: the row bound, and whether it is in having or select of an aggregate view, whose grouping columns
@@ -78,7 +78,7 @@ fn step(frame: &[u8], at: usize) -> u16
     requires { at ≤ length frame.now }
     ensures { result ≡ get_or frame.now at 0 * 256 + get_or frame.now (at + 1) 0 }
 {
-    (byte_at(frame, at) as u16) * 256 + (byte_at(frame, at + 1) as u16)
+    (item_at(frame, at, 0) as u16) * 256 + (item_at(frame, at + 1, 0) as u16)
 }
 
 // A constant of two bytes.
@@ -86,7 +86,7 @@ fn constant(frame: &[u8], at: usize) -> Sized
     requires { at ≤ length frame.now }
     ensures { result ≡ sized (at + 2) true (ranged (constant_of (bytes_z (get_or frame.now at 0) (get_or frame.now (at + 1) 0)))) }
 {
-    let n = integer::from_bytes(byte_at(frame, at), byte_at(frame, at + 1));
+    let n = integer::from_bytes(item_at(frame, at, 0), item_at(frame, at + 1, 0));
     sizing(at + 2, true, Ranged::Within(Range::constant(n)))
 }
 
@@ -108,7 +108,7 @@ fn grouping(frame: &[u8], places: usize, count: u8, item: u8, column: u8) -> boo
     let mut at = places;
     let mut left = count;
     while 0 < left {
-        let same = (byte_at(frame, at) == item) & (byte_at(frame, at + 1) == column);
+        let same = (item_at(frame, at, 0) == item) & (item_at(frame, at + 1, 0) == column);
         if same {
             return true;
         }
@@ -137,8 +137,8 @@ fn column(frame: &[u8], at: usize, items: Items, shape: &[u8], ends: &[i32], rul
     requires { at ≤ length frame.now }
     ensures { result ≡ column_sized frame.now at (relations_in items) shape.now ends.now rule }
 {
-    let item = byte_at(frame, at);
-    let number = byte_at(frame, at + 1);
+    let item = item_at(frame, at, 0);
+    let number = item_at(frame, at + 1, 0);
     let allowed = permitted(frame, rule, item, number);
     sizing(at + 2, allowed, range_of(items, shape, ends, item, number))
 }
@@ -319,7 +319,7 @@ pub fn expression(
         }
         0x07 => {
             let a = expression(frame, body + 1, items, shape, ends, inside(rule));
-            aggregated(byte_at(frame, body), rule, a)
+            aggregated(item_at(frame, body, 0), rule, a)
         }
         _ => sizing(at, false, Ranged::Beyond),
     }
@@ -358,7 +358,7 @@ pub fn condition(
             testing(d.next, c.allowed & d.allowed, c.within & d.within)
         }
         0x17 => {
-            let more = opened(items, byte_at(frame, body));
+            let more = opened(items, item_at(frame, body, 0));
             let c = condition(frame, body + 1, more, shape, ends, in_where(rule));
             existing(rule, c)
         }

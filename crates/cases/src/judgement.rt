@@ -17,7 +17,7 @@ fn note_sign(frame: &[u8], shape: &[u8], counts: &[u8], signs: &mut [u8], work: 
         return;
     }
     let sign = relation::is_refuted(frame, counts, signs, work, v);
-    slice::put_byte(signs, v as usize, boolean::one_if(sign));
+    slice::put_item(signs, v as usize, boolean::one_if(sign));
 }
 
 // The rows of view v, if they are needed, and their number.
@@ -28,7 +28,7 @@ fn note_rows(frame: &[u8], shape: &[u8], counts: &mut [u8], work: &mut [i32], v:
         return;
     }
     let n = relation::view_rows(frame, shape, counts, work, v);
-    slice::put_byte(counts, v as usize, n);
+    slice::put_item(counts, v as usize, n);
 }
 
 // The views whose rows are needed or whose sign is asked, from the first to the last. `counts` has the number of rows of each relation,
@@ -63,9 +63,9 @@ pub fn wanted(goal: Goal, counts: &[u8], signs: &[u8]) -> bool
     ensures { IsWanted goal counts.now signs.now result }
 {
     if goal.negative {
-        return slice::byte_at(signs, goal.view as usize) == 1;
+        return slice::item_at(signs, goal.view as usize, 0) == 1;
     }
-    0 < slice::byte_at(counts, goal.view as usize)
+    0 < slice::item_at(counts, goal.view as usize, 0)
 }
 
 // Whether the database in the work area is a case of the goal. Of any input: false where no table has a row or a key is broken, and nothing

@@ -25,7 +25,7 @@ fn set_names(names: &[u8], shape: &mut [u8], asked: bool)
 {
     let mut i: usize = 0;
     while i < names.len() {
-        let named = slice::byte_at(names, i);
+        let named = slice::item_at(names, i, 0);
         set_flag(shape, named, asked);
         i += 1;
     }
@@ -36,10 +36,10 @@ fn set_behind(frame: &[u8], shape: &mut [u8], i: usize, v: u8)
     requires { i < length frame.now }
     ensures { shape.new ≡ set_flags 6 (behind_at v frame.now i) shape.old }
 {
-    if slice::byte_at(frame, i) != 0x17 {
+    if slice::item_at(frame, i, 0) != 0x17 {
         return;
     }
-    let named = slice::byte_at(frame, i + 1);
+    let named = slice::item_at(frame, i + 1, 0);
     if v <= named {
         return;
     }
@@ -90,7 +90,7 @@ fn need_rows(frame: &[u8], shape: &mut [u8], v: u8)
     if !arrays::is_asked(shape, v) {
         return;
     }
-    if 5 <= slice::byte_at(frame, 0) {
+    if 5 <= slice::item_at(frame, 0, 0) {
         return;
     }
     set_named(frame, shape, v);
@@ -103,7 +103,7 @@ fn need_signs(frame: &[u8], shape: &mut [u8], v: u8)
     if !arrays::is_asked(shape, v) {
         return;
     }
-    if slice::byte_at(frame, 0) < 5 {
+    if slice::item_at(frame, 0, 0) < 5 {
         return;
     }
     let names = frames::names(frame);

@@ -64,7 +64,7 @@ fn keys_hold(shape: &[u8], counts: &[u8], work: &[i32], tables: u8) -> bool
 {
     let mut t: u8 = 0;
     while t < tables {
-        let rows = slice::byte_at(counts, t as usize);
+        let rows = slice::item_at(counts, t as usize, 0);
         let width = arrays::width_of(shape, t);
         let mask = arrays::mask_of(shape, t);
         if !key_holds(work, t, rows, width, mask) {
@@ -89,8 +89,8 @@ fn agrees(frame: &[u8], key: KeyParts, work: &[i32], i: u8, j: u8) -> bool
         if frame.len() <= next {
             return false;
         }
-        let a = slice::byte_at(frame, next) as usize;
-        let b = slice::byte_at(frame, next + 1) as usize;
+        let a = slice::item_at(frame, next, 0) as usize;
+        let b = slice::item_at(frame, next + 1, 0) as usize;
         let x = store::cell(work, child as usize, i as usize, a);
         let y = store::cell(work, parent as usize, j as usize, b);
         if !x.same(y) {
@@ -121,8 +121,8 @@ fn foreign_key_holds(frame: &[u8], counts: &[u8], work: &[i32]) -> bool
     ensures { result ≡ foreign_key_in frame.now counts.now work.now }
 {
     let key = frames::key_parts(frame);
-    let children = slice::byte_at(counts, key.child as usize);
-    let parents = slice::byte_at(counts, key.parent as usize);
+    let children = slice::item_at(counts, key.child as usize, 0);
+    let parents = slice::item_at(counts, key.parent as usize, 0);
     let mut i: u8 = 0;
     while i < children {
         if !has_parent(frame, key, work, i, parents) {

@@ -5,7 +5,7 @@ ghost use Rattle.value.specs.Machine.{column_of};
 ghost use Rattle.catalog.specs.Arrays.{width_at, bound_at, mask_at, start_at, needed_at, asked_at, range_at, column_at, put_range, put_shape, put_start, set_needed, set_asked};
 
 use range::Range;
-use slice::{byte_at, put_byte};
+use slice::{item_at, put_item};
 use value::domain::Domain;
 use value::integer;
 
@@ -17,7 +17,7 @@ const ENTRY: usize = 8;
 pub fn width_of(shape: &[u8], r: u8) -> u8
     ensures { result ≡ width_at shape.now r }
 {
-    byte_at(shape, ENTRY * (r as usize) + 1)
+    item_at(shape, ENTRY * (r as usize) + 1, 0)
 }
 
 // Its row bound.
@@ -25,7 +25,7 @@ pub fn width_of(shape: &[u8], r: u8) -> u8
 pub fn bound_of(shape: &[u8], r: u8) -> u8
     ensures { result ≡ bound_at shape.now r }
 {
-    byte_at(shape, ENTRY * (r as usize) + 2)
+    item_at(shape, ENTRY * (r as usize) + 2, 0)
 }
 
 // Its key mask.
@@ -33,7 +33,7 @@ pub fn bound_of(shape: &[u8], r: u8) -> u8
 pub fn mask_of(shape: &[u8], r: u8) -> u8
     ensures { result ≡ mask_at shape.now r }
 {
-    byte_at(shape, ENTRY * (r as usize) + 3)
+    item_at(shape, ENTRY * (r as usize) + 3, 0)
 }
 
 // The place of its frame, the frame's length first.
@@ -42,8 +42,8 @@ pub(crate) fn start_of(shape: &[u8], r: u8) -> usize
     ensures { result ≡ start_at shape.now r }
 {
     let at = ENTRY * (r as usize);
-    let high = byte_at(shape, at + 4) as usize;
-    let low = byte_at(shape, at + 5) as usize;
+    let high = item_at(shape, at + 4, 0) as usize;
+    let low = item_at(shape, at + 5, 0) as usize;
     256 * high + low
 }
 
@@ -52,7 +52,7 @@ pub(crate) fn start_of(shape: &[u8], r: u8) -> usize
 pub fn is_needed(shape: &[u8], r: u8) -> bool
     ensures { result ≡ eqb (needed_at shape.now r) 1 }
 {
-    byte_at(shape, ENTRY * (r as usize) + 6) == 1
+    item_at(shape, ENTRY * (r as usize) + 6, 0) == 1
 }
 
 // Whether a search asks if it is negative.
@@ -60,7 +60,7 @@ pub fn is_needed(shape: &[u8], r: u8) -> bool
 pub fn is_asked(shape: &[u8], r: u8) -> bool
     ensures { result ≡ eqb (asked_at shape.now r) 1 }
 {
-    byte_at(shape, ENTRY * (r as usize) + 7) == 1
+    item_at(shape, ENTRY * (r as usize) + 7, 0) == 1
 }
 
 // The number at a place; 0 past the end.
@@ -127,10 +127,10 @@ pub fn put_shape(shape: &mut [u8], r: u8, kind: u8, width: u8, bound: u8, mask: 
     ensures { shape.new ≡ put_shape shape.old r kind width bound mask }
 {
     let at = ENTRY * (r as usize);
-    put_byte(shape, at, kind);
-    put_byte(shape, at + 1, width);
-    put_byte(shape, at + 2, bound);
-    put_byte(shape, at + 3, mask);
+    put_item(shape, at, kind);
+    put_item(shape, at + 1, width);
+    put_item(shape, at + 2, bound);
+    put_item(shape, at + 3, mask);
 }
 
 // The place of a relation's frame, below 65,536.
@@ -139,8 +139,8 @@ pub fn put_start(shape: &mut [u8], r: u8, start: u32)
     ensures { shape.new ≡ put_start shape.old r start }
 {
     let at = ENTRY * (r as usize);
-    put_byte(shape, at + 4, (start / 256 % 256) as u8);
-    put_byte(shape, at + 5, (start % 256) as u8);
+    put_item(shape, at + 4, (start / 256 % 256) as u8);
+    put_item(shape, at + 5, (start % 256) as u8);
 }
 
 // The relation's rows are needed.
@@ -148,7 +148,7 @@ pub fn put_start(shape: &mut [u8], r: u8, start: u32)
 pub fn set_needed(shape: &mut [u8], r: u8)
     ensures { shape.new ≡ set_needed shape.old r }
 {
-    put_byte(shape, ENTRY * (r as usize) + 6, 1);
+    put_item(shape, ENTRY * (r as usize) + 6, 1);
 }
 
 // It is asked whether the relation is negative.
@@ -156,5 +156,5 @@ pub fn set_needed(shape: &mut [u8], r: u8)
 pub fn set_asked(shape: &mut [u8], r: u8)
     ensures { shape.new ≡ set_asked shape.old r }
 {
-    put_byte(shape, ENTRY * (r as usize) + 7, 1);
+    put_item(shape, ENTRY * (r as usize) + 7, 1);
 }

@@ -4,7 +4,7 @@ ghost use Rattle.catalog.specs.Frames.{frame_at, frame_in, table_parts_in, key_p
 
 use super::arrays;
 use super::plan::Goal;
-use slice::byte_at;
+use slice::item_at;
 
 // Where the columns of a table's frame begin.
 pub const COLUMNS: usize = 4;
@@ -69,7 +69,7 @@ fn part(bytes: &[u8], at: usize, n: u8) -> &[u8]
 pub fn frame_at(bytes: &[u8], at: usize) -> &[u8]
     ensures { result.now ≡ frame_at bytes.now at }
 {
-    let size = byte_at(bytes, at);
+    let size = item_at(bytes, at, 0);
     let before = inside(bytes, at);
     part(bytes, before + 1, size)
 }
@@ -88,9 +88,9 @@ pub fn table_parts(frame: &[u8]) -> TableParts
     ensures { result ≡ table_parts_in frame.now }
 {
     TableParts {
-        rows: byte_at(frame, 1),
-        width: byte_at(frame, 2),
-        mask: byte_at(frame, 3),
+        rows: item_at(frame, 1, 0),
+        width: item_at(frame, 2, 0),
+        mask: item_at(frame, 3, 0),
     }
 }
 
@@ -100,9 +100,9 @@ pub fn key_parts(frame: &[u8]) -> KeyParts
     ensures { result ≡ key_parts_in frame.now }
 {
     KeyParts {
-        child: byte_at(frame, 1),
-        parent: byte_at(frame, 2),
-        count: byte_at(frame, 3),
+        child: item_at(frame, 1, 0),
+        parent: item_at(frame, 2, 0),
+        count: item_at(frame, 3, 0),
         pairs: PAIRS,
     }
 }
@@ -113,8 +113,8 @@ pub fn set_parts(frame: &[u8]) -> SetParts
     ensures { result ≡ set_parts_in frame.now }
 {
     SetParts {
-        left: byte_at(frame, 1),
-        right: byte_at(frame, 2),
+        left: item_at(frame, 1, 0),
+        right: item_at(frame, 2, 0),
     }
 }
 
@@ -124,8 +124,8 @@ pub fn goal_of(frame: &[u8]) -> Goal
     ensures { result ≡ goal_in frame.now }
 {
     Goal {
-        view: byte_at(frame, 1),
-        negative: byte_at(frame, 2) == 1,
+        view: item_at(frame, 1, 0),
+        negative: item_at(frame, 2, 0) == 1,
     }
 }
 
@@ -134,7 +134,7 @@ pub fn goal_of(frame: &[u8]) -> Goal
 pub(crate) fn from_list(frame: &[u8]) -> &[u8]
     ensures { result.now ≡ froms_in frame.now }
 {
-    part(frame, 2, byte_at(frame, 1))
+    part(frame, 2, item_at(frame, 1, 0))
 }
 
 // The relations that a view's frame names.
@@ -142,7 +142,7 @@ pub(crate) fn from_list(frame: &[u8]) -> &[u8]
 pub fn names(frame: &[u8]) -> &[u8]
     ensures { result.now ≡ names_in frame.now }
 {
-    if GROUPED < byte_at(frame, 0) {
+    if GROUPED < item_at(frame, 0, 0) {
         return part(frame, 1, 2);
     }
     from_list(frame)
@@ -153,17 +153,17 @@ pub fn names(frame: &[u8]) -> &[u8]
 pub fn parts_after(frame: &[u8], grouped: bool) -> Parts
     ensures { result ≡ parts_after grouped (get_or frame.now 1 0) frame.now }
 {
-    let items = byte_at(frame, 1) as usize;
+    let items = item_at(frame, 1, 0) as usize;
     if grouped {
         return Parts {
-            groups: byte_at(frame, items + 2),
-            width: byte_at(frame, items + 3),
+            groups: item_at(frame, items + 2, 0),
+            width: item_at(frame, items + 3, 0),
             body: items + 4,
         };
     }
     Parts {
         groups: 0,
-        width: byte_at(frame, items + 2),
+        width: item_at(frame, items + 2, 0),
         body: items + 3,
     }
 }

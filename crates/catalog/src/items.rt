@@ -4,7 +4,7 @@ ghost use Rattle.catalog.specs.Frames.{froms_in};
 ghost use Rattle.catalog.specs.Items.{bytes_at, relations_in, items_of, widths_in, six_with, opened_items};
 
 use crate::{arrays, frames};
-use slice::byte_at;
+use slice::item_at;
 
 // Of the six places the first `number` count.
 #[derive(Clone, Copy)]
@@ -26,15 +26,15 @@ fn six_of(names: &[u8]) -> [u8; 6]
 {
     // One item is the most frequent.
     if names.len() < 2 {
-        return [byte_at(names, 0), 0, 0, 0, 0, 0];
+        return [item_at(names, 0, 0), 0, 0, 0, 0, 0];
     }
     [
-        byte_at(names, 0),
-        byte_at(names, 1),
-        byte_at(names, 2),
-        byte_at(names, 3),
-        byte_at(names, 4),
-        byte_at(names, 5),
+        item_at(names, 0, 0),
+        item_at(names, 1, 0),
+        item_at(names, 2, 0),
+        item_at(names, 3, 0),
+        item_at(names, 4, 0),
+        item_at(names, 5, 0),
     ]
 }
 
@@ -59,7 +59,7 @@ pub fn relation(items: Items, i: u8) -> u8
         return 0;
     }
     let relations = items.relations;
-    byte_at(&relations, i as usize)
+    item_at(&relations, i as usize, 0)
 }
 
 // The number of columns of an item, 0 past the last.

@@ -36,7 +36,7 @@ pub fn count_tables(shape: &[u8], tables: u8, counts: &mut [u8])
     let mut t: u8 = 0;
     while t < tables {
         let rows = arrays::bound_of(shape, t);
-        slice::put_byte(counts, t as usize, rows);
+        slice::put_item(counts, t as usize, rows);
         t += 1;
     }
 }

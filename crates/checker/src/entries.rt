@@ -10,7 +10,7 @@ ghost use Rattle.checker.specs.CandidateCount.{too_many, capped_product, columns
 use catalog::frames::{COLUMNS, SetParts};
 use catalog::{arrays, frames};
 use range::Range;
-use slice::byte_at;
+use slice::item_at;
 use value::domain::Domain;
 use value::integer;
 
@@ -29,8 +29,8 @@ fn domain_at(bytes: &[u8], at: usize) -> Domain
     requires { at ≤ 1024 }
     ensures { column_of result ≡ column_from bytes.now at }
 {
-    let lo = integer::from_bytes(byte_at(bytes, at), byte_at(bytes, at + 1));
-    let hi = integer::from_bytes(byte_at(bytes, at + 2), byte_at(bytes, at + 3));
+    let lo = integer::from_bytes(item_at(bytes, at, 0), item_at(bytes, at + 1, 0));
+    let hi = integer::from_bytes(item_at(bytes, at + 2, 0), item_at(bytes, at + 3, 0));
     Domain { lo: lo, hi: hi }
 }
 

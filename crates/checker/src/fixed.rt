@@ -32,7 +32,10 @@ fn number_at(frame: &[u8], at: usize) -> i32
     requires { at < 65540 }
     ensures { result ≡ bytes_z (get_or frame.now at 0) (get_or frame.now (at + 1) 0) }
 {
-    integer::widen16(integer::from_bytes(slice::byte_at(frame, at), slice::byte_at(frame, at + 1)))
+    integer::widen16(integer::from_bytes(
+        slice::item_at(frame, at, 0),
+        slice::item_at(frame, at + 1, 0),
+    ))
 }
 
 // The lo and hi of a column.
@@ -89,7 +92,7 @@ fn table_columns(frame: &[u8], n: u8) -> u8
 pub(crate) fn table_fault(frame: &[u8]) -> u8
     ensures { TableFault frame.now result }
 {
-    let n = slice::byte_at(frame, 2);
+    let n = slice::item_at(frame, 2, 0);
     let head = table_head(frame, n);
     let columns = table_columns(frame, n);
     fields::first_of(head, columns)
@@ -131,7 +134,7 @@ fn parents_of(frame: &[u8], i: u8, n: u8) -> u8
     let mut at = 4;
     let mut left = n;
     while 0 < left {
-        let one = boolean::one_if(slice::byte_at(frame, at + 1) == i);
+        let one = boolean::one_if(slice::item_at(frame, at + 1, 0) == i);
         count = count + one;
         at = at + 2;
         left = left - 1;
@@ -204,9 +207,9 @@ fn key_body(frame: &[u8], shape: &[u8], child: u8, parent: u8, n: u8) -> u8
 pub(crate) fn key_fault(frame: &[u8], shape: &[u8], tables: u8) -> u8
     ensures { KeyFault frame.now shape.now tables result }
 {
-    let child = slice::byte_at(frame, 1);
-    let parent = slice::byte_at(frame, 2);
-    let n = slice::byte_at(frame, 3);
+    let child = slice::item_at(frame, 1, 0);
+    let parent = slice::item_at(frame, 2, 0);
+    let n = slice::item_at(frame, 3, 0);
     let head = key_head(frame, tables);
     let body = key_body(frame, shape, child, parent, n);
     fields::first_of(head, body)
@@ -243,8 +246,8 @@ fn set_rules(union: bool, shape: &[u8], i: u8, j: u8) -> u8
 pub(crate) fn set_fault(frame: &[u8], shape: &[u8], tables: u8, count: u8, union: bool) -> u8
     ensures { SetFault frame.now shape.now tables count (set_operation union) result }
 {
-    let i = slice::byte_at(frame, 1);
-    let j = slice::byte_at(frame, 2);
+    let i = slice::item_at(frame, 1, 0);
+    let j = slice::item_at(frame, 2, 0);
     let bytes = set_bytes(frame, tables, count);
     let rules = set_rules(union, shape, i, j);
     fields::first_of(bytes, rules)

@@ -55,7 +55,7 @@ fn place_behind(bytes: &[u8], n: u16) -> u32
     let mut at: u32 = 0;
     let mut left = n;
     while 0 < left {
-        at = at + (slice::byte_at(bytes, at as usize) as u32) + 1;
+        at = at + (slice::item_at(bytes, at as usize, 0) as u32) + 1;
         left = left - 1;
     }
     at

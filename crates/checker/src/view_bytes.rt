@@ -34,7 +34,7 @@ fn relations(frame: &[u8], n: u8, count: u8) -> u8
 fn from_list(frame: &[u8], count: u8) -> u8
     ensures { result ≡ fault_at frame.now 1 (froms_under count) }
 {
-    let n = slice::byte_at(frame, 1);
+    let n = slice::item_at(frame, 1, 0);
     fields::first_of(
         fields::between(frame, 1, 5, 1, 3),
         relations(frame, n, count),
@@ -115,7 +115,7 @@ fn counted_select(frame: &[u8], at: usize, setting: Setting, shape: &[u8]) -> u8
     requires { at ≤ 65536 }
     ensures { result ≡ fault_at frame.now at (counted_select (open_of shape.now setting)) }
 {
-    let m = slice::byte_at(frame, at);
+    let m = slice::item_at(frame, at, 0);
     let count = fields::between(frame, at, 5, 1, 8);
     let behind = condition_select(frame, at + 1, setting, shape, m);
     fields::first_of(count, behind)
@@ -126,7 +126,7 @@ fn counted_where(frame: &[u8], at: usize, setting: Setting, shape: &[u8], g: u8)
     requires { at ≤ 65536 }
     ensures { result ≡ fault_at frame.now at (counted_where (open_of shape.now setting) g) }
 {
-    let m = slice::byte_at(frame, at);
+    let m = slice::item_at(frame, at, 0);
     let select = fields::between(frame, at, 5, 1, 8);
     let behind = where_groups(frame, at + 1, setting, shape, g, m);
     fields::first_of(select, behind)
@@ -137,7 +137,7 @@ fn counted_groups(frame: &[u8], at: usize, setting: Setting, shape: &[u8]) -> u8
     requires { at ≤ 65535 }
     ensures { result ≡ fault_at frame.now at (counted_groups (open_of shape.now setting)) }
 {
-    let g = slice::byte_at(frame, at);
+    let g = slice::item_at(frame, at, 0);
     let groups = fields::between(frame, at, 5, 0, 4);
     let behind = counted_where(frame, at + 1, setting, shape, g);
     fields::first_of(groups, behind)
@@ -160,7 +160,7 @@ fn behind_froms(frame: &[u8], at: usize, setting: Setting, shape: &[u8], grouped
 pub(crate) fn bytes_fault(frame: &[u8], shape: &[u8], count: u8, grouped: bool) -> u8
     ensures { BytesFault grouped frame.now shape.now count result }
 {
-    let at = wide(slice::byte_at(frame, 1)) + 2;
+    let at = wide(slice::item_at(frame, 1, 0)) + 2;
     let setting = Setting {
         items: from_items(frame),
         earlier: count,

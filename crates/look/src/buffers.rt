@@ -13,12 +13,12 @@ pub(crate) fn show(codes: &[u16], cells: u32, work: &[i32], instance: &mut [i16]
     let mut j: u32 = 0;
     while j < cells {
         let at = j as usize;
-        let code = slice::word_at(codes, at);
+        let code = slice::item_at(codes, at, 0);
         let relation = (code / 32) as usize;
         let row = (code / 4 % 8) as usize;
         let column = (code % 4) as usize;
         let v = store::cell(work, relation, row, column);
-        slice::put_short(instance, at, v.shown());
+        slice::put_item(instance, at, v.shown());
         j += 1;
     }
 }

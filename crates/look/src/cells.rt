@@ -13,7 +13,7 @@ fn add_row(table: u8, row: u8, columns: u8, n: u32, codes: &mut [u16]) -> u32
     let mut c: u8 = 0;
     while c < columns {
         let at = (n as usize) + (c as usize);
-        slice::put_word(codes, at, first + (c as u16));
+        slice::put_item(codes, at, first + (c as u16));
         c += 1;
     }
     n + (columns as u32)

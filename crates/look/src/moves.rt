@@ -88,7 +88,7 @@ pub(crate) fn put_candidate(
     let mut left = k;
     let mut j = cells;
     while 0 < j {
-        let code = slice::word_at(codes, (j - 1) as usize);
+        let code = slice::item_at(codes, (j - 1) as usize, 0);
         let width = code % 4 + 1;
         if j < (width as u32) {
             return;
@@ -126,7 +126,7 @@ pub(crate) fn move_to(
             return;
         }
         j -= 1;
-        let code = slice::word_at(codes, j as usize);
+        let code = slice::item_at(codes, j as usize, 0);
         q = put_digit(shape, ends, code, q, work);
     }
 }

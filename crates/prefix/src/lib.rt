@@ -8,7 +8,7 @@ ghost use Rattle.prefix.specs.Skipped.{skip_told, skipped, twice, open_of, opene
 
 use catalog::items;
 use catalog::items::{Items, width};
-use slice::byte_at;
+use slice::item_at;
 
 // Where an expression stands: the from items that are open, and how many relations are before the view.
 #[derive(Clone, Copy)]
@@ -44,7 +44,7 @@ pub fn word_at(frame: &[u8], at: usize) -> u16
     if frame.len() <= at {
         return 0;
     }
-    wide(byte_at(frame, at)) * 256 + wide(byte_at(frame, at + 1))
+    wide(item_at(frame, at, 0)) * 256 + wide(item_at(frame, at + 1, 0))
 }
 
 // One byte, whose test the caller has made.
@@ -67,7 +67,7 @@ fn tested(frame: &[u8], at: usize, number: u8, passes: bool) -> Skip
 pub fn below(frame: &[u8], at: usize, number: u8, n: u8) -> Skip
     ensures { skip_told result ≡ skipped frame.now at (byte_if number (λ b. ltb b n)) }
 {
-    tested(frame, at, number, byte_at(frame, at) < n)
+    tested(frame, at, number, item_at(frame, at, 0) < n)
 }
 
 // One byte from lo to hi.
@@ -79,7 +79,7 @@ pub fn between(frame: &[u8], at: usize, number: u8, lo: u8, hi: u8) -> Skip
         frame,
         at,
         number,
-        within(wide(byte_at(frame, at)), wide(lo), wide(hi)),
+        within(wide(item_at(frame, at, 0)), wide(lo), wide(hi)),
     )
 }
 
@@ -117,7 +117,7 @@ fn step(frame: &[u8], at: usize) -> Skip
 pub fn place(frame: &[u8], at: usize, items: Items, shape: &[u8]) -> Skip
     ensures { skip_told result ≡ skipped frame.now at (place_r (widths_in shape.now (relations_in items))) }
 {
-    let item = byte_at(frame, at);
+    let item = item_at(frame, at, 0);
     match tested(frame, at, 6, item < items.number) {
         Skip::Next(next) => below(frame, next, 6, width(items, shape, item)),
         Skip::Refused(n) => Skip::Refused(n),
@@ -245,7 +245,7 @@ fn behind_exists(frame: &[u8], at: usize, setting: Setting, shape: &[u8]) -> Ski
     if 6 <= items.number {
         return Skip::Refused(5);
     }
-    let inner = opened(setting, byte_at(frame, at));
+    let inner = opened(setting, item_at(frame, at, 0));
     match below(frame, at, 6, setting.earlier) {
         Skip::Next(next) => condition(frame, next, inner, shape),
         Skip::Refused(n) => Skip::Refused(n),

@@ -2,7 +2,7 @@
 ghost use Rattle.std.specs.Prelude.{◌≡◌};
 ghost use Rattle.views.specs.Ends.{own_bytes, own_forms, EndsCondition};
 
-use slice::byte_at;
+use slice::item_at;
 
 // By token, 00 to 17: how many bytes it has with its own fields, 0 where it is none, and how many forms stand behind it.
 const BYTES: [u8; 24] =
@@ -14,13 +14,13 @@ const FORMS: [u8; 24] =
 fn own_bytes(token: u8) -> u8
     ensures { result ≡ own_bytes token }
 {
-    byte_at(&BYTES, token as usize)
+    item_at(&BYTES, token as usize, 0)
 }
 
 fn own_forms(token: u8) -> u8
     ensures { result ≡ own_forms token }
 {
-    byte_at(&FORMS, token as usize)
+    item_at(&FORMS, token as usize, 0)
 }
 
 // Where the bytes behind the condition at `at` start. Open is what other bytes give, but for being not before `at`, and nobody sees it: only

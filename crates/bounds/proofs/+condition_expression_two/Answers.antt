@@ -32,7 +32,7 @@ condition-returns-in-20 t c = on-negated _ _ _ _ _ _ c.if-frame-at.false c.in-20
 
 pub condition-returns-in-23 : goal.condition-returns-in-23
 condition-returns-in-23 t c = on-exists _ _ _ _ _ _ c.if-frame-at.false c.in-23.is
-    (opened-last _ c.byte_at.ensures c.opened-more.ensures)
+    (opened-last _ c.item_at.ensures c.opened-more.ensures)
     c.in_where.ensures c.condition-c.ensures c.existing.ensures
 
 pub condition-returns-in-17-to-19 : goal.condition-returns-in-17-to-19
@@ -77,7 +77,7 @@ pub expression-returns-in-6 : goal.expression-returns-in-6
 expression-returns-in-6 t c = on-choice _ _ _ _ _ _ c.if-frame-at.false c.in-6.is c.condition-c.ensures c.two.ensures c.chosen.ensures
 
 pub expression-returns-in-7 : goal.expression-returns-in-7
-expression-returns-in-7 t c = on-aggregate _ _ _ _ _ _ c.if-frame-at.false c.in-7.is c.byte_at.ensures
+expression-returns-in-7 t c = on-aggregate _ _ _ _ _ _ c.if-frame-at.false c.in-7.is c.item_at.ensures
     c.inside.ensures c.expression-a-in-7.ensures c.aggregated.ensures
 
 pub expression-returns-in-2-to-4 : goal.expression-returns-in-2-to-4

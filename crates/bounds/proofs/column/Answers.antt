@@ -3,4 +3,4 @@ use mathlib.Core.Path.{◌∙◌}
 use Rattle.bounds.proofs.column.Goals as goal
 
 pub returns : goal.returns
-returns c = c.sizing.ensures ∙ rw (c.permitted-allowed.ensures, c.range_of.ensures, c.byte_at-item.ensures, c.byte_at-number.ensures)
+returns c = c.sizing.ensures ∙ rw (c.permitted-allowed.ensures, c.range_of.ensures, c.item_at-item.ensures, c.item_at-number.ensures)

@@ -21,4 +21,4 @@ returns c = let l : SFits w32 c.constant.result.lo = search rules in
     ∙ ap (λ (v : Ranged). sized (c.args.at + 2) true v)
     (sym (ranged-fits c.constant.result l h)
     ∙ ap (λ (q : Range). ranged q) (c.constant.ensures ∙ ap (λ (z : ℤ). constant_of z) (back w16 _ c.from_bytes-n.type_inv ∙ c.from_bytes-n.ensures ∙ rw
-    (c.byte_at.ensures, c.byte_at-2.ensures))))
+    (c.item_at.ensures, c.item_at-2.ensures))))

@@ -10,7 +10,7 @@ pub overflow_add-at : goal.overflow_add-at
 overflow_add-at c = omega arith
 
 pub returns-then-same : goal.returns-then-same
-returns-then-same c = seek_found _ _ _ c.loop-left.invariant c.loop-left-test.true (rw (← c.byte_at.ensures, ← c.byte_at-in-loop-left.ensures) c.if-same.true)
+returns-then-same c = seek_found _ _ _ c.loop-left.invariant c.loop-left-test.true (rw (← c.item_at.ensures, ← c.item_at-in-loop-left.ensures) c.if-same.true)
 
 pub overflow_add-at-in-loop-left : goal.overflow_add-at-in-loop-left
 overflow_add-at-in-loop-left c = omega arith
@@ -22,7 +22,7 @@ pub loop-left-smaller : goal.loop-left-smaller
 loop-left-smaller c = omega arith
 
 pub loop-left-preserved : goal.loop-left-preserved
-loop-left-preserved c = seek-on _ _ _ c.loop-left.invariant c.loop-left-test.true (rw (← c.byte_at.ensures, ← c.byte_at-in-loop-left.ensures) c.if-same.false)
+loop-left-preserved c = seek-on _ _ _ c.loop-left.invariant c.loop-left-test.true (rw (← c.item_at.ensures, ← c.item_at-in-loop-left.ensures) c.if-same.false)
 
 pub returns : goal.returns
 returns c = seek-none _ _ _ c.loop-left.invariant c.loop-left-test.false

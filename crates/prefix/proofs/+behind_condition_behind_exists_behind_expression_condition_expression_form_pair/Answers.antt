@@ -62,7 +62,7 @@ pub behind_exists-returns-in-Next : goal.behind_exists-returns-in-Next
 behind_exists-returns-in-Next t c = let a = c.args in
     rw c.opened-inner.ensures at c.condition.ensures
     ∙ sym (looked-next _ _ a.shape.now a.setting c.if-items-ge6.false
-    c.below.ensures (ap skip_told c.in-Next.is) c.byte_at.ensures)
+    c.below.ensures (ap skip_told c.in-Next.is) c.item_at.ensures)
 
 pub behind_exists-returns-in-Refused : goal.behind_exists-returns-in-Refused
 behind_exists-returns-in-Refused t c = let a = c.args in

@@ -5,4 +5,4 @@ use Rattle.prefix.proofs.Fields.{if-tested}
 use Rattle.prefix.proofs.below.Goals as goal
 
 pub returns : goal.returns
-returns c = let a = c.args in if-tested _ _ a.number (λ b. ltb b a.n) (ap (λ b. ltb b a.n) c.byte_at.ensures) c.tested.ensures
+returns c = let a = c.args in if-tested _ _ a.number (λ b. ltb b a.n) (ap (λ b. ltb b a.n) c.item_at.ensures) c.tested.ensures

@@ -6,4 +6,4 @@ use Rattle.prefix.proofs.Fields.{if-tested}
 use Rattle.prefix.proofs.between.Goals as goal
 
 pub returns : goal.returns
-returns c = let a = c.args in if-tested _ _ a.number (λ b. leb a.lo b && leb b a.hi) (c.within.ensures ∙ rw (c.wide.ensures, c.wide-2.ensures, c.wide-3.ensures, c.byte_at.ensures)) c.tested.ensures
+returns c = let a = c.args in if-tested _ _ a.number (λ b. leb a.lo b && leb b a.hi) (c.within.ensures ∙ rw (c.wide.ensures, c.wide-2.ensures, c.wide-3.ensures, c.item_at.ensures)) c.tested.ensures

@@ -12,14 +12,14 @@ pub returns-in-Next : goal.returns-in-Next
 returns-in-Next c = c.below.ensures
     ∙ sym (place-next _ _ (widths_in c.args.shape.now (relations_in
     c.args.items))
-    (ap₂ ltb c.byte_at-item.ensures (widths-number c.args.items
+    (ap₂ ltb c.item_at-item.ensures (widths-number c.args.items
     c.args.shape.now)) c.tested.ensures (ap skip_told c.in-Next.is)
     (c.width.ensures
     ∙ ap (λ i. get_or (widths_in c.args.shape.now (relations_in
-    c.args.items)) i 0) c.byte_at-item.ensures))
+    c.args.items)) i 0) c.item_at-item.ensures))
 
 pub returns-in-Refused : goal.returns-in-Refused
 returns-in-Refused c = sym (place-stop _ _ (widths_in c.args.shape.now (relations_in c.args.items))
-    (ap₂ ltb c.byte_at-item.ensures (widths-number c.args.items
+    (ap₂ ltb c.item_at-item.ensures (widths-number c.args.items
     c.args.shape.now))
     c.tested.ensures (ap skip_told c.in-Refused.is))

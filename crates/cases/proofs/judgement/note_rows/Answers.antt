@@ -6,4 +6,4 @@ pub returns-then-not-is_needed : goal.returns-then-not-is_needed
 returns-then-not-is_needed c = rows-unneeded c.is_needed.ensures (c.if-not-is_needed.true)
 
 pub returns : goal.returns
-returns c = rows-noted c.view_rows-n.ensures c.put_byte.ensures
+returns c = rows-noted c.view_rows-n.ensures c.put_item.ensures

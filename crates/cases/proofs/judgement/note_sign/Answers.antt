@@ -6,4 +6,4 @@ pub returns-then-not-is_asked : goal.returns-then-not-is_asked
 returns-then-not-is_asked c = sign-unasked c.is_asked.ensures (c.if-not-is_asked.true)
 
 pub returns : goal.returns
-returns c = sign-noted c.is_refuted-sign.ensures c.one_if.ensures.0 c.put_byte.ensures
+returns c = sign-noted c.is_refuted-sign.ensures c.one_if.ensures.0 c.put_item.ensures

@@ -11,14 +11,14 @@ pub returns-then-not-is_asked : goal.returns-then-not-is_asked
 returns-then-not-is_asked c = rows-unasked c.is_needed.ensures c.is_asked.ensures c.if-is_needed.false
     (c.if-not-is_asked.true)
 
-pub returns-then-byte_at-ge5 : goal.returns-then-byte_at-ge5
-returns-then-byte_at-ge5 c = rows-of-set c.is_needed.ensures c.is_asked.ensures
+pub returns-then-item_at-ge5 : goal.returns-then-item_at-ge5
+returns-then-item_at-ge5 c = rows-of-set c.is_needed.ensures c.is_asked.ensures
     c.if-is_needed.false (c.if-not-is_asked.false)
-    (omega (arith, c.byte_at.ensures, c.if-byte_at-ge5.true))
+    (omega (arith, c.item_at.ensures, c.if-item_at-ge5.true))
 
 pub returns : goal.returns
 returns c =
     let asked = c.is_asked in
     rows-asked c.is_needed.ensures asked.ensures
     c.if-is_needed.false (c.if-not-is_asked.false)
-    (omega (arith, c.byte_at.ensures, c.if-byte_at-ge5.false)) c.set_named-2.ensures
+    (omega (arith, c.item_at.ensures, c.if-item_at-ge5.false)) c.set_named-2.ensures

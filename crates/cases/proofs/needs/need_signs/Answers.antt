@@ -6,10 +6,10 @@ use Rattle.cases.proofs.needs.need_signs.Goals as goal
 pub returns-then-not-is_asked : goal.returns-then-not-is_asked
 returns-then-not-is_asked c = signs-unasked c.is_asked.ensures (c.if-not-is_asked.true)
 
-pub returns-then-byte_at-lt5 : goal.returns-then-byte_at-lt5
-returns-then-byte_at-lt5 c = signs-of-own c.is_asked.ensures (c.if-not-is_asked.false)
-    (omega (arith, c.byte_at.ensures, c.if-byte_at-lt5.true))
+pub returns-then-item_at-lt5 : goal.returns-then-item_at-lt5
+returns-then-item_at-lt5 c = signs-of-own c.is_asked.ensures (c.if-not-is_asked.false)
+    (omega (arith, c.item_at.ensures, c.if-item_at-lt5.true))
 
 pub returns : goal.returns
 returns c = signs-asked c.is_asked.ensures (c.if-not-is_asked.false)
-    (omega (arith, c.byte_at.ensures, c.if-byte_at-lt5.false)) c.names-names.ensures c.set_names.ensures
+    (omega (arith, c.item_at.ensures, c.if-item_at-lt5.false)) c.names-names.ensures c.set_names.ensures

@@ -17,7 +17,7 @@ loop-i-preserved c = (
   search rules,
   names_more _ (flag-low c.args.asked) (flag-high
       c.args.asked) _ _ _ _ _ _ c.loop-i-test.true
-      c.loop-i.invariant.2 c.byte_at-named.ensures c.set_flag.ensures,
+      c.loop-i.invariant.2 c.item_at-named.ensures c.set_flag.ensures,
 )
 
 pub shape_of-shape : goal.shape_of-shape

@@ -12,7 +12,7 @@ returns-then-frame-next c = left-ends c.loop-p.invariant.1 c.loop-p-test.true c.
 
 pub returns-then-not-same : goal.returns-then-not-same
 returns-then-not-same c = left-fails c.loop-p.invariant.1 c.loop-p-test.true
-    (pair_is _ _ _ _ _ _ _ c.byte_at-a.ensures c.byte_at-b.ensures c.cell-x.ensures
+    (pair_is _ _ _ _ _ _ _ c.item_at-a.ensures c.item_at-b.ensures c.cell-x.ensures
     c.cell-y.ensures c.same.ensures ∙ c.if-not-same.true)
 
 pub loop-p-smaller : goal.loop-p-smaller
@@ -22,7 +22,7 @@ pub loop-p-preserved : goal.loop-p-preserved
 loop-p-preserved c = (
   omega arith,
   left-passes c.loop-p.invariant.1 c.loop-p-test.true (omega arith)
-      (pair_is _ _ _ _ _ _ _ c.byte_at-a.ensures c.byte_at-b.ensures c.cell-x.ensures
+      (pair_is _ _ _ _ _ _ _ c.item_at-a.ensures c.item_at-b.ensures c.cell-x.ensures
       c.cell-y.ensures c.same.ensures ∙ c.if-not-same.false),
 )
 

@@ -9,8 +9,8 @@ pub loop-i-init : goal.loop-i-init
 loop-i-init c = (omega arith, all-below-none _)
 
 pub returns-then-not-has_parent : goal.returns-then-not-has_parent
-returns-then-not-has_parent c = key-is _ _ _ c.key_parts-key.ensures c.byte_at-children.ensures
-    c.byte_at-parents.ensures (all-below-stops _ _ _ c.loop-i-test.true (sym c.has_parent.ensures ∙ c.if-not-has_parent.true))
+returns-then-not-has_parent c = key-is _ _ _ c.key_parts-key.ensures c.item_at-children.ensures
+    c.item_at-parents.ensures (all-below-stops _ _ _ c.loop-i-test.true (sym c.has_parent.ensures ∙ c.if-not-has_parent.true))
 
 pub loop-i-smaller : goal.loop-i-smaller
 loop-i-smaller c = omega arith
@@ -21,5 +21,5 @@ loop-i-preserved c =
 
 pub returns : goal.returns
 returns c =
-    key-is _ _ _ c.key_parts-key.ensures c.byte_at-children.ensures c.byte_at-parents.ensures
+    key-is _ _ _ c.key_parts-key.ensures c.item_at-children.ensures c.item_at-parents.ensures
     (all-below-whole _ _ _ (omega arith) c.loop-i.invariant.1)

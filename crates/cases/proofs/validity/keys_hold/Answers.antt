@@ -10,7 +10,7 @@ loop-t-init c = (omega arith, all-below-none _)
 
 pub returns-then-not-key_holds : goal.returns-then-not-key_holds
 returns-then-not-key_holds c = sym (all-below-stops _ _ _ c.loop-t-test.true
-    (key-there _ _ _ _ c.byte_at-rows.ensures c.width_of-width.ensures c.mask_of-mask.ensures
+    (key-there _ _ _ _ c.item_at-rows.ensures c.width_of-width.ensures c.mask_of-mask.ensures
     c.key_holds.ensures ∙ c.if-not-key_holds.true))
 
 pub loop-t-smaller : goal.loop-t-smaller
@@ -20,7 +20,7 @@ pub loop-t-preserved : goal.loop-t-preserved
 loop-t-preserved c = (
   omega arith,
   all-below-next _ _ c.loop-t.invariant.1
-      (key-there _ _ _ _ c.byte_at-rows.ensures c.width_of-width.ensures c.mask_of-mask.ensures
+      (key-there _ _ _ _ c.item_at-rows.ensures c.width_of-width.ensures c.mask_of-mask.ensures
       c.key_holds.ensures ∙ c.if-not-key_holds.false),
 )
 

@@ -4,4 +4,4 @@ use lib.Dec.{eqb}
 use Rattle.catalog.proofs.arrays.is_needed.Goals as goal
 
 pub returns : goal.returns
-returns c = ap (λ n. eqb n 1) c.byte_at.ensures
+returns c = ap (λ n. eqb n 1) c.item_at.ensures

@@ -5,8 +5,8 @@ use Rattle.catalog.proofs.arrays.put_shape.Goals as goal
 pub returns : goal.returns
 unfolding put_shape
 returns c = rw (
-  c.put_byte-4.ensures,
-  c.put_byte-3.ensures,
-  c.put_byte-2.ensures,
-  c.put_byte.ensures,
+  c.put_item-4.ensures,
+  c.put_item-3.ensures,
+  c.put_item-2.ensures,
+  c.put_item.ensures,
 )

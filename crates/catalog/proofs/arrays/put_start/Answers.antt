@@ -4,4 +4,4 @@ use Rattle.catalog.proofs.arrays.put_start.Goals as goal
 
 pub returns : goal.returns
 unfolding put_start
-returns c = rw (c.put_byte-2.ensures, c.put_byte.ensures)
+returns c = rw (c.put_item-2.ensures, c.put_item.ensures)

@@ -4,4 +4,4 @@ use Rattle.catalog.proofs.arrays.start_of.Goals as goal
 
 pub returns : goal.returns
 unfolding start_at
-returns c = rw (c.byte_at-high.ensures, c.byte_at-low.ensures)
+returns c = rw (c.item_at-high.ensures, c.item_at-low.ensures)

@@ -4,4 +4,4 @@ use Rattle.catalog.proofs.FrameLaws.{froms-are}
 use Rattle.catalog.proofs.frames.from_list.Goals as goal
 
 pub returns : goal.returns
-returns c = c.part.ensures ∙ froms-are c.args.frame.now c.byte_at.result c.byte_at.ensures
+returns c = c.part.ensures ∙ froms-are c.args.frame.now c.item_at.result c.item_at.ensures

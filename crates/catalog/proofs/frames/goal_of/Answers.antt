@@ -4,4 +4,4 @@ use Rattle.catalog.proofs.frames.goal_of.Goals as goal
 
 pub returns : goal.returns
 unfolding goal_in
-returns c = rw (c.byte_at.ensures, c.byte_at-2.ensures)
+returns c = rw (c.item_at.ensures, c.item_at-2.ensures)

@@ -4,4 +4,4 @@ use Rattle.catalog.proofs.frames.table_parts.Goals as goal
 
 pub returns : goal.returns
 unfolding table_parts_in
-returns c = rw (c.byte_at.ensures, c.byte_at-2.ensures, c.byte_at-3.ensures)
+returns c = rw (c.item_at.ensures, c.item_at-2.ensures, c.item_at-3.ensures)

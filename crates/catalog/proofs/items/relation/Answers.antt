@@ -8,4 +8,4 @@ pub returns-then-items-i : goal.returns-then-items-i
 returns-then-items-i c = sym (relation-past _ _ c.if-items-i.true)
 
 pub returns : goal.returns
-returns c = c.byte_at.ensures ∙ sym (relation-there _ _ (search rules))
+returns c = c.item_at.ensures ∙ sym (relation-there _ _ (search rules))

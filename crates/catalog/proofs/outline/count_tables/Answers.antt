@@ -12,7 +12,7 @@ pub loop-t-smaller : goal.loop-t-smaller
 loop-t-smaller c = omega arith
 
 pub loop-t-preserved : goal.loop-t-preserved
-loop-t-preserved c = (counted-more c.loop-t.invariant.0 c.bound_of-rows.ensures c.put_byte.ensures, search rules, omega arith)
+loop-t-preserved c = (counted-more c.loop-t.invariant.0 c.bound_of-rows.ensures c.put_item.ensures, search rules, omega arith)
 
 pub returns : goal.returns
 returns c = counted-all c.loop-t.invariant.0 (omega arith)

@@ -13,8 +13,8 @@ returns c = rw (
       c.from_bytes-hi.type_inv,
   c.from_bytes-lo.ensures,
   c.from_bytes-hi.ensures,
-  c.byte_at.ensures,
-  c.byte_at-2.ensures,
-  c.byte_at-3.ensures,
-  c.byte_at-4.ensures,
+  c.item_at.ensures,
+  c.item_at-2.ensures,
+  c.item_at-3.ensures,
+  c.item_at-4.ensures,
 )

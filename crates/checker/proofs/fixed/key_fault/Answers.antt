@@ -4,5 +4,5 @@ use Rattle.checker.proofs.fixed.key_fault.Goals as goal
 
 pub returns : goal.returns
 returns c = key-answer c.args.frame.now c.args.tables
-    c.args.shape.now c.byte_at-child.ensures c.byte_at-parent.ensures
-    c.byte_at-n.ensures c.key_head-head.ensures c.key_body-body.ensures c.first_of.ensures
+    c.args.shape.now c.item_at-child.ensures c.item_at-parent.ensures
+    c.item_at-n.ensures c.key_head-head.ensures c.key_body-body.ensures c.first_of.ensures

@@ -10,7 +10,7 @@ loop-left-init c = (omega arith, refl)
 pub loop-left-preserved : goal.loop-left-preserved
 loop-left-preserved c = (
   omega arith,
-  rw c.byte_at.ensures (start-turn c.args.bytes.now c.loop-left.at c.loop-left.left
+  rw c.item_at.ensures (start-turn c.args.bytes.now c.loop-left.at c.loop-left.left
       (omega arith) ∙ c.loop-left.invariant.1),
 )
 

@@ -9,4 +9,4 @@ pub returns : goal.returns
 unfolding counted_groups
 returns c = let a = c.args in
     count-then a.frame.now a.at (within 0 4) (counted_where (open_of a.shape.now a.setting))
-    c.byte_at-g.ensures c.between-groups.ensures c.counted_where-behind.ensures c.first_of.ensures
+    c.item_at-g.ensures c.between-groups.ensures c.counted_where-behind.ensures c.first_of.ensures

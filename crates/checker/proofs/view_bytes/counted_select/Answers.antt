@@ -9,4 +9,4 @@ pub returns : goal.returns
 unfolding counted_select
 returns c = let a = c.args in
     count-then a.frame.now a.at (within 1 8) (condition_select (open_of a.shape.now a.setting))
-    c.byte_at-m.ensures c.between-count.ensures c.condition_select-behind.ensures c.first_of.ensures
+    c.item_at-m.ensures c.between-count.ensures c.condition_select-behind.ensures c.first_of.ensures

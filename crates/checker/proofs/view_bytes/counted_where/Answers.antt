@@ -9,4 +9,4 @@ pub returns : goal.returns
 unfolding counted_where
 returns c = let a = c.args in
     count-then a.frame.now a.at (within 1 8) (where_groups (open_of a.shape.now a.setting) a.g)
-    c.byte_at-m.ensures c.between-select.ensures c.where_groups-behind.ensures c.first_of.ensures
+    c.item_at-m.ensures c.between-select.ensures c.where_groups-behind.ensures c.first_of.ensures

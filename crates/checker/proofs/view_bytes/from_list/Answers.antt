@@ -3,5 +3,5 @@ use Rattle.checker.proofs.ViewByteLaws.{froms-are}
 use Rattle.checker.proofs.view_bytes.from_list.Goals as goal
 
 pub returns : goal.returns
-returns c = froms-are c.args.frame.now c.args.count c.byte_at-n.ensures c.between.ensures
+returns c = froms-are c.args.frame.now c.args.count c.item_at-n.ensures c.between.ensures
     c.relations.ensures c.first_of.ensures

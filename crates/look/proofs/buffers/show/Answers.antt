@@ -14,8 +14,8 @@ loop-j-smaller c = omega arith
 
 pub loop-j-preserved : goal.loop-j-preserved
 loop-j-preserved c =
-    showing-more _ _ _ c.loop-j.invariant (omega arith) c.word_at-code.ensures
-    c.cell-v.ensures (back w16 _ c.shown.type_inv ∙ c.shown.ensures) c.put_short.ensures
+    showing-more _ _ _ c.loop-j.invariant (omega arith) c.item_at-code.ensures
+    c.cell-v.ensures (back w16 _ c.shown.type_inv ∙ c.shown.ensures) c.put_item.ensures
 
 pub shape_of-instance : goal.shape_of-instance
 shape_of-instance c = c.loop-j.invariant.showing.length-kept

@@ -13,7 +13,7 @@ loop-c-smaller c = omega arith
 
 pub loop-c-preserved : goal.loop-c-preserved
 loop-c-preserved c = (
-  row_more c.loop-c.invariant.0 c.loop-c.invariant.2 c.put_word.ensures,
+  row_more c.loop-c.invariant.0 c.loop-c.invariant.2 c.put_item.ensures,
   omega arith,
   c.loop-c.invariant.2,
   search rules,

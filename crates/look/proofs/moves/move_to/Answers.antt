@@ -17,7 +17,7 @@ loop-j-smaller c = omega arith
 
 pub loop-j-preserved : goal.loop-j-preserved
 loop-j-preserved c =
-    under_next c.loop-j-test.true c.loop-j.invariant c.word_at-code.ensures
+    under_next c.loop-j-test.true c.loop-j.invariant c.item_at-code.ensures
     c.put_digit-q.ensures
 
 pub shape_of-work : goal.shape_of-work
