@@ -19,7 +19,6 @@ use Rattle.meaning.specs.Valid.{InRange}
 use Rattle.meaning.specs.Decided.{valid, has_row, some_row, negative, wanted, is_case}
 use Rattle.meaning.proofs.DecidedLists.{each-length}
 use Rattle.meaning.proofs.Relations.{rows-table}
-use Rattle.catalog.specs.Arrays.{needed_at, asked_at}
 use Rattle.catalog.specs.Frames.{frame_in}
 use Rattle.catalog.specs.FileIn.{Source, FileIn, goal_of}
 use Rattle.catalog.specs.declared.outline.Outline.{Outline}
@@ -29,6 +28,7 @@ use Rattle.store.specs.Rows.{rows_in}
 use Rattle.store.proofs.RowLaws.{rows-length, only_same, only-more, only_wider}
 use Rattle.views.proofs.Copying.{apart-same}
 use Rattle.views.proofs.Rooms.{positive}
+use Rattle.cases.specs.declared.needs.Needs.{Needs}
 use Rattle.cases.specs.Needs.{Needed, Asked}
 use Rattle.cases.specs.Relations.{columns_of, ViewRows, IsRefuted}
 use Rattle.cases.specs.Validity.{IsValid}
@@ -38,8 +38,8 @@ use Rattle.cases.proofs.Turns.{turn-known}
 
 -- ---- notes
 
-module _ {frame shape : List ℕ} {memory : Memory} {v : ℕ} where
-  pub sign-unasked : {b : Bool} → b ≡ eqb (asked_at shape v) 1 → b ≡ false → SignNoted frame shape memory v memory.signs memory.work
+module _ {frame : List ℕ} {needs : Needs} {memory : Memory} {v : ℕ} where
+  pub sign-unasked : {b : Bool} → b ≡ get_or needs.signs v false → b ≡ false → SignNoted frame needs memory v memory.signs memory.work
   sign-unasked e h = record {
     apart = apart-same v memory.work;
     size = refl;
@@ -48,7 +48,7 @@ module _ {frame shape : List ℕ} {memory : Memory} {v : ℕ} where
   }
 
   pub sign-noted : {r : Bool} {work' : List ℤ} {signs' : List ℕ} {b : ℕ} → IsRefuted frame memory.counts memory.signs memory.work v r work' → b ≡ tick r 0
-      → signs' ≡ set memory.signs v b → SignNoted frame shape memory v signs' work'
+      → signs' ≡ set memory.signs v b → SignNoted frame needs memory v signs' work'
   sign-noted {r} {b = b} R q e = record {
     apart = R.apart;
     size = rw e (length-set memory.signs v b);
@@ -56,8 +56,8 @@ module _ {frame shape : List ℕ} {memory : Memory} {v : ℕ} where
     noted = λ f l. (r, R, rw e (get_or-set_same memory.signs v b 0 l) ∙ q ∙ tick-one r);
   }
 
-module _ {frame shape counts : List ℕ} {work : List ℤ} {v : ℕ} where
-  pub rows-unneeded : {b : Bool} → b ≡ eqb (needed_at shape v) 1 → b ≡ false → RowsNoted frame shape counts work v counts work
+module _ {frame shape : List ℕ} {needs : Needs} {counts : List ℕ} {work : List ℤ} {v : ℕ} where
+  pub rows-unneeded : {b : Bool} → b ≡ get_or needs.rows v false → b ≡ false → RowsNoted frame shape needs counts work v counts work
   rows-unneeded e h = record {
     apart = apart-same v work;
     size = refl;
@@ -66,7 +66,7 @@ module _ {frame shape counts : List ℕ} {work : List ℤ} {v : ℕ} where
   }
 
   pub rows-noted : {n : ℕ} {work' : List ℤ} {counts' : List ℕ} → ViewRows frame shape counts work v n work' → counts' ≡ set counts v n
-      → RowsNoted frame shape counts work v counts' work'
+      → RowsNoted frame shape needs counts work v counts' work'
   rows-noted {n} {work'} A e = record {
     apart = A.apart;
     size = rw e (length-set counts v n);
@@ -77,17 +77,17 @@ module _ {frame shape counts : List ℕ} {work : List ℤ} {v : ℕ} where
 -- ---- the loop
 
 -- the views before v are worked out
-pub record Turned (source : Source) (memory memory' : Memory) (v : ℕ) : Type 0 where
+pub record Turned (source : Source) (needs : Needs) (memory memory' : Memory) (v : ℕ) : Type 0 where
   pub first : source.outline.tables ≤ v
   pub kept : OnlyViews source.outline memory memory'
-  pub known : {F : File} {g : Goal} {d : Database} {ends : List ℤ} → FileIn F source ends → Ready F g d source memory → Known F d source.shape memory' v
+  pub known : {F : File} {g : Goal} {d : Database} {ends : List ℤ} → FileIn F source ends → Ready F g d needs memory → Known F d needs memory' v
 
 kept_same : (o : Outline) (memory : Memory) → OnlyViews o memory memory
 kept_same o memory = record { counts-size = refl; signs-size = refl; cells = only_same memory.work; counts = λ i h. refl; signs = λ i h. refl }
 
 -- the tables are known
-tables-known : {F : File} {g : Goal} {d : Database} {source : Source} {ends : List ℤ} {memory : Memory} → FileIn F source ends → Ready F g d source memory
-    → (v : ℕ) → v ≤ length F.tables → Known F d source.shape memory v
+tables-known : {F : File} {g : Goal} {d : Database} {source : Source} {ends : List ℤ} {needs : Needs} {memory : Memory} → FileIn F source ends → Ready F g d needs memory
+    → (v : ℕ) → v ≤ length F.tables → Known F d needs memory v
 tables-known {F} {d = d} {memory = memory} G R v h = record {
   rows-known = λ i l f.
       let there : i < length F.tables = omega arith in
@@ -96,18 +96,18 @@ tables-known {F} {d = d} {memory = memory} G R v h = record {
   signs-known = λ i t l f. absurd (omega arith);
 }
 
-module _ {source : Source} {memory : Memory} where
-  pub turned_none : Turned source memory memory source.outline.tables
+module _ {source : Source} {needs : Needs} {memory : Memory} where
+  pub turned_none : Turned source needs memory memory source.outline.tables
   turned_none = record {
     first = omega arith;
     kept = kept_same source.outline memory;
     known = λ G R. tables-known G R source.outline.tables (omega (arith, G.tables));
   }
 
-  pub turned_more : {memory₁ : Memory} {v : ℕ} {frame : List ℕ} → Turned source memory memory₁ v → v < source.outline.relations
-      → frame ≡ frame_in source.bytes source.shape v → {signs₂ : List ℕ} {work₂ : List ℤ} → SignNoted frame source.shape memory₁ v signs₂ work₂
-      → {counts₂ : List ℕ} {work₃ : List ℤ} → RowsNoted frame source.shape memory₁.counts work₂ v counts₂ work₃
-      → Turned source memory (memory_from counts₂ signs₂ work₃) (v + 1)
+  pub turned_more : {memory₁ : Memory} {v : ℕ} {frame : List ℕ} → Turned source needs memory memory₁ v → v < source.outline.relations
+      → frame ≡ frame_in source.bytes source.shape v → {signs₂ : List ℕ} {work₂ : List ℤ} → SignNoted frame needs memory₁ v signs₂ work₂
+      → {counts₂ : List ℕ} {work₃ : List ℤ} → RowsNoted frame source.shape needs memory₁.counts work₂ v counts₂ work₃
+      → Turned source needs memory (memory_from counts₂ signs₂ work₃) (v + 1)
   turned_more {v = v} T l here S N =
       let own : (r : ℕ) → r ≡ v → ViewIn source.outline r = λ r e. (omega (arith, T.first), omega arith) in
       record {
@@ -125,7 +125,7 @@ module _ {source : Source} {memory : Memory} where
             (omega (arith, T.kept.signs-size, R.signs-size)) (omega (arith, T.first, G.tables)) (omega (arith, G.relations)) here S N);
       }
 
-  pub turned-all : {memory₁ : Memory} {v : ℕ} → Turned source memory memory₁ v → source.outline.relations ≤ v → Evaluates source memory memory₁
+  pub turned-all : {memory₁ : Memory} {v : ℕ} → Turned source needs memory memory₁ v → source.outline.relations ≤ v → Evaluates source needs memory memory₁
   turned-all T h = record {
     kept = T.kept;
     known = λ G R. let K = T.known G R in record {
@@ -174,9 +174,9 @@ filled-rows : {ts : List Table} {d : Database} → Each InRange ts d → any has
 filled-rows Each.nil = refl
 filled-rows (Each.cons p ps) = ap₂ ◌||◌ (ap is_pos p.rows) (filled-rows ps)
 
-module _ {source : Source} {g : GoalHere} {memory : Memory} where
+module _ {source : Source} {needs : Needs} {g : GoalHere} {memory : Memory} where
   -- a database with no rows, or one that is not valid, is no case
-  pub case-empty : source.outline.filled ≡ false → IsCase source g memory false memory
+  pub case-empty : source.outline.filled ≡ false → IsCase source needs g memory false memory
   case-empty h = record {
     early = λ _. (refl, refl);
     late = λ t. let z : judged_further source memory ≡ false = rw h in absurd (true≢false (sym t ∙ z));
@@ -184,7 +184,7 @@ module _ {source : Source} {g : GoalHere} {memory : Memory} where
     case = λ {F} {d} G R. no_row F (goal_of g) d (filled-rows R.shaped ∙ sym G.filled ∙ h);
   }
 
-  pub case-invalid : {b : Bool} → IsValid source memory.counts memory.work b → b ≡ false → IsCase source g memory false memory
+  pub case-invalid : {b : Bool} → IsValid source memory.counts memory.work b → b ≡ false → IsCase source needs g memory false memory
   case-invalid ok h = record {
     early = λ _. (refl, refl);
     late = λ t. absurd (true≢false (sym (and_parts source.outline.filled _ t).1 ∙ sym ok.here ∙ h));
@@ -193,7 +193,7 @@ module _ {source : Source} {g : GoalHere} {memory : Memory} where
   }
 
   pub case-valid : {b r : Bool} {memory' : Memory} → source.outline.filled ≡ true → IsValid source memory.counts memory.work b → b ≡ true
-      → Evaluates source memory memory' → IsWanted g memory'.counts memory'.signs r → IsCase source g memory r memory'
+      → Evaluates source needs memory memory' → IsWanted g memory'.counts memory'.signs r → IsCase source needs g memory r memory'
   case-valid {r = r} {memory'} f ok h E X = record {
     early = λ t. let z : judged_further source memory ≡ true = ap₂ (λ (a b : Bool). a && b) f (sym ok.here ∙ h) in absurd (true≢false (sym z ∙ t));
     late = λ _. (E, X);
@@ -203,8 +203,8 @@ module _ {source : Source} {g : GoalHere} {memory : Memory} where
         (wanted-is R (E.known G R));
   }
     where
-      wanted-is : {F : File} {d : Database} → Ready F (goal_of g) d source memory
-          → Known F d source.shape memory' (length F.tables + length F.views) → r ≡ wanted F d (goal_of g)
+      wanted-is : {F : File} {d : Database} → Ready F (goal_of g) d needs memory
+          → Known F d needs memory' (length F.tables + length F.views) → r ≡ wanted F d (goal_of g)
       wanted-is {F} {d} R K =
           let v = g.view in
           let first = R.covers.view.behind in
@@ -213,8 +213,8 @@ module _ {source : Source} {g : GoalHere} {memory : Memory} where
           let A = negative F d (suc v) v in
           let B = has_row (rows F d v) in
           by-test g.negative
-          (λ e. let flag : Asked source.shape v = rw e at R.covers.goal in
+          (λ e. let flag : Asked needs v = rw e at R.covers.goal in
           X.by_sign e ∙ ap (λ k. eqb k 1) (K.signs-known v first last flag) ∙ one-sign A ∙ sym (ap (λ b. cond b A B) e))
-          (λ e. let flag : Needed source.shape v = rw e at R.covers.goal in
+          (λ e. let flag : Needed needs v = rw e at R.covers.goal in
           let size : n ≡ length (rows F d v) = sym (rows-length memory'.work v (columns_of (schemas F) v) n) ∙ ap length (K.rows-known v last flag) in
           X.by_rows e ∙ ap is_pos size ∙ sym (ap (λ b. cond b A B) e))

@@ -6,8 +6,9 @@ use mathlib.Core.Option.{some}
 use Prim.Native.Nat.{ℕ, ◌≤◌, ◌<◌}
 use native.Mathlib.Omega.{arith}
 use lib.IntN.{ℤ}
-use lib.ListN.{length, get_or}
+use lib.ListN.{length, get_or, get_or-replicate}
 use Rattle.value.specs.Bag.{All}
+use Rattle.value.proofs.Decides.{by-test}
 use Rattle.value.proofs.Values.{all_map}
 use Rattle.meaning.specs.Syntax.{View, Goal, File, Database}
 use Rattle.meaning.specs.Algebra.{query}
@@ -20,11 +21,10 @@ use Rattle.catalog.proofs.FileLaws.{rows_are}
 use Rattle.store.specs.Rows.{rows_in}
 use Rattle.store.proofs.RowLaws.{only-rows}
 use Rattle.cases.specs.TablesIn.{TablesIn}
-use Rattle.cases.specs.Needs.{Flag, flag_of, Needed, Asked, Asks, AllSet, GoalIn, Covers}
+use Rattle.cases.specs.Needs.{Flag, flags_of, Needed, Asked, Asks, all_needs, GoalIn, Covers}
 use Rattle.cases.specs.Judgement.{Memory, OnlyViews}
 use Rattle.cases.proofs.ViewLaws.{names-before}
 use Rattle.cases.proofs.FileLaws.{view-legal, before-length}
-use Rattle.cases.proofs.FlagLaws.{all-flag}
 
 -- ---- numbers of rows
 
@@ -50,21 +50,30 @@ tables-kept {F} {o = o} {memory} n k T = record {
 
 -- ---- every relation
 
+all-flag : (asked : Bool) (i : ℕ) → i < 16 → Flag (flags_of asked all_needs) i
+all-flag asked i h = by-test asked
+    (λ t. rw t (record { on = get_or-replicate 16 i true false h }))
+    (λ t. rw t (record { on = get_or-replicate 16 i true false h }))
+
+-- the rows of a relation are needed then
+pub all-needed : (i : ℕ) → i < 16 → Needed all_needs i
+all-needed i h = all-flag false i h
+
 -- flags of all relations cover what a goal depends on
-pub all-covers : {F : File} {shape shape' : List ℕ} → Legal F → length shape ≡ 128 → AllSet 16 shape shape' → (g : Goal) → GoalIn F g → Covers F g shape'
-all-covers {F} {shape} {shape'} L z S g W = record {
+pub all-covers : {F : File} → Legal F → (g : Goal) → GoalIn F g → Covers F g all_needs
+all-covers {F} L g W = record {
   view = W;
-  goal = all-flag S z g.negative g.view (omega (arith, W.before, L.relation_count));
+  goal = all-flag g.negative g.view (omega (arith, W.before, L.relation_count));
   rows = λ v q e f. named false v q e;
   signs = λ v q e f. asks q (named false v q e) (named true v q e);
 }
   where
-    named : (asked : Bool) (v : ℕ) (q : View) → query (length F.tables) F v ≡ some q → All (Flag (flag_of asked) shape') (names q)
+    named : (asked : Bool) (v : ℕ) (q : View) → query (length F.tables) F v ≡ some q → All (Flag (flags_of asked all_needs)) (names q)
     named asked v q e =
         let last = (query-split (length F.tables) F v q e).2 in
-        all_map (λ i h. all-flag S z asked i (omega (arith, before-length L v q e, L.relation_count))) (names-before q (view-legal L v q e))
+        all_map (λ i h. all-flag asked i (omega (arith, before-length L v q e, L.relation_count))) (names-before q (view-legal L v q e))
 
-    asks : (q : View) → All (Needed shape') (names q) → All (Asked shape') (names q) → Asks shape' q
+    asks : (q : View) → All (Needed all_needs) (names q) → All (Asked all_needs) (names q) → Asks all_needs q
     asks (View.basic fs w es) h k = h
     asks (View.grouped fs w gs c es) h k = h
     asks (View.set op i j) h (All.cons a (All.cons b All.nil)) = (a, b)

@@ -35,6 +35,7 @@ use Rattle.catalog.proofs.FileLaws.{width_is}
 use Rattle.store.specs.Layout.{area}
 use Rattle.store.specs.Rows.{rows_in}
 use Rattle.views.proofs.Copying.{apart-rows}
+use Rattle.cases.specs.declared.needs.Needs.{Needs}
 use Rattle.cases.specs.Needs.{Needed, Asked, Asks, Covers}
 use Rattle.cases.specs.Relations.{columns_of, OperandsIn, SignsIn}
 use Rattle.cases.specs.Judgement.{Memory, memory_from, SignNoted, RowsNoted, Known}
@@ -49,7 +50,7 @@ view-there F v h l =
     let (q, e) = get_elem-some F.views (v - n) (omega arith) in
     (q, rw (le-ltb v n h) e)
 
-module _ {F : File} {g : Goal} {d : Database} {source : Source} {ends : List ℤ} (G : FileIn F source ends) (C : Covers F g source.shape) (shaped : Shaped F d) where
+module _ {F : File} {g : Goal} {d : Database} {source : Source} {ends : List ℤ} {needs : Needs} (G : FileIn F source ends) (C : Covers F g needs) (shaped : Shaped F d) where
   abbrev L : Legal F
   L = G.legal
 
@@ -76,8 +77,8 @@ module _ {F : File} {g : Goal} {d : Database} {source : Source} {ends : List ℤ
   in-d v {q} e = subst (λ k. query k F v ≡ some q) (sym (each-length shaped)) e
 
   -- the relations that a view names, where their rows are needed
-  operands-in : (v : ℕ) (q : View) (e : query n F v ≡ some q) → v < n + length F.views → {memory : Memory} → Known F d shape memory v
-      → area ≤ length memory.work → All (Needed shape) (names q) → OperandsIn n (take v (schemas F)) (M v) memory.counts memory.work v q
+  operands-in : (v : ℕ) (q : View) (e : query n F v ≡ some q) → v < n + length F.views → {memory : Memory} → Known F d needs memory v
+      → area ≤ length memory.work → All (Needed needs) (names q) → OperandsIn n (take v (schemas F)) (M v) memory.counts memory.work v q
   operands-in v q e l K whole flags =
       let legal = view-legal L v q e in
       let place = before-length L v q e in
@@ -95,8 +96,8 @@ module _ {F : File} {g : Goal} {d : Database} {source : Source} {ends : List ℤ
       }
 
   -- what tells whether a view is negative, where it is asked
-  signs-in : (v : ℕ) (q : View) (e : query n F v ≡ some q) → v < n + length F.views → {memory : Memory} → Known F d shape memory v
-      → area ≤ length memory.work → Asks shape q → SignsIn n (take v (schemas F)) (M v) neg memory.counts memory.signs memory.work v q
+  signs-in : (v : ℕ) (q : View) (e : query n F v ≡ some q) → v < n + length F.views → {memory : Memory} → Known F d needs memory v
+      → area ≤ length memory.work → Asks needs q → SignsIn n (take v (schemas F)) (M v) neg memory.counts memory.signs memory.work v q
   signs-in v (View.basic fs w es) e l K whole flags = operands-in v (View.basic fs w es) e l K whole flags
   signs-in v (View.grouped fs w gs h es) e l K whole flags = operands-in v (View.grouped fs w gs h es) e l K whole flags
   signs-in v (View.set op i j) e l K whole (fi, fj) =
@@ -108,24 +109,24 @@ module _ {F : File} {g : Goal} {d : Database} {source : Source} {ends : List ℤ
 
   -- ---- one turn
 
-  module _ (v : ℕ) {memory : Memory} (K : Known F d shape memory v) (whole : area ≤ length memory.work) (counts-size : 16 ≤ length memory.counts)
+  module _ (v : ℕ) {memory : Memory} (K : Known F d needs memory v) (whole : area ≤ length memory.work) (counts-size : 16 ≤ length memory.counts)
       (signs-size : 16 ≤ length memory.signs) (first : n ≤ v) (last : v < n + length F.views) {frame : List ℕ} (here : frame ≡ frame_in source.bytes shape v)
-      {signs' counts' : List ℕ} {work₁ work₂ : List ℤ} (S : SignNoted frame shape memory v signs' work₁)
-      (R : RowsNoted frame shape memory.counts work₁ v counts' work₂) where
+      {signs' counts' : List ℕ} {work₁ work₂ : List ℤ} (S : SignNoted frame needs memory v signs' work₁)
+      (R : RowsNoted frame shape needs memory.counts work₁ v counts' work₂) where
     small : v < 16
     small = omega (arith, L.relation_count)
 
     own-frame : (q : View) → query n F v ≡ some q → frame ≡ view_bytes q
     own-frame q e = here ∙ G.views v q e
 
-    own_sign : Asked shape v → get_or signs' v 0 ≡ cond (neg v) 1 0
+    own_sign : Asked needs v → get_or signs' v 0 ≡ cond (neg v) 1 0
     own_sign f =
         let (q, e) = view-there F v first last in
         let (r, T, noted) = S.noted f (omega (arith, small, signs-size)) in
         let s = signs-in v q e last K whole (C.signs v q e f) in
         noted ∙ ap (λ b. cond b 1 0) (T.refutes q (own-frame q e) n (take v (schemas F)) (M v) neg s ∙ sym (negative-view F d in_order v q (in-d v e)))
 
-    own-rows : Needed shape v → rows_in work₂ v (columns_of (schemas F) v) (get_or counts' v 0) ≡ rows F d v
+    own-rows : Needed needs v → rows_in work₂ v (columns_of (schemas F) v) (get_or counts' v 0) ≡ rows F d v
     own-rows f =
         let (q, e) = view-there F v first last in
         let s = operands-kept q S.apart (operands-in v q e last K whole (C.rows v q e f)) in
@@ -137,13 +138,13 @@ module _ {F : File} {g : Goal} {d : Database} {source : Source} {ends : List ℤ
     rows-kept : (i w k : ℕ) → (i ≡ v → ⊥) → rows_in work₂ i w k ≡ rows_in memory.work i w k
     rows-kept i w k h = apart-rows R.apart i w k h ∙ apart-rows S.apart i w k h
 
-    pub turn-known : Known F d shape (memory_from counts' signs' work₂) (suc v)
+    pub turn-known : Known F d needs (memory_from counts' signs' work₂) (suc v)
     turn-known = record {
-      rows-known = λ i h f. ⊎_elim (λ (e : i ≡ v). subst (λ j. rows_in work₂ j (columns_of (schemas F) j) (get_or counts' j 0) ≡ rows F d j) (sym e) (own-rows (subst (Needed shape) e f)))
+      rows-known = λ i h f. ⊎_elim (λ (e : i ≡ v). subst (λ j. rows_in work₂ j (columns_of (schemas F) j) (get_or counts' j 0) ≡ rows F d j) (sym e) (own-rows (subst (Needed needs) e f)))
           (λ (l : i < v). let other : i ≡ v → ⊥ = λ e. omega arith in
           rw (R.others i other) (rows-kept i (columns_of (schemas F) i) (get_or memory.counts i 0) other ∙ K.rows-known i l f))
           (eq-or-lt_of_le (le_of_suc-le-suc h));
-      signs-known = λ i t h f. ⊎_elim (λ (e : i ≡ v). subst (λ j. get_or signs' j 0 ≡ cond (neg j) 1 0) (sym e) (own_sign (subst (Asked shape) e f)))
+      signs-known = λ i t h f. ⊎_elim (λ (e : i ≡ v). subst (λ j. get_or signs' j 0 ≡ cond (neg j) 1 0) (sym e) (own_sign (subst (Asked needs) e f)))
           (λ (l : i < v). S.others i (λ e. omega arith) ∙ K.signs-known i t l f)
           (eq-or-lt_of_le (le_of_suc-le-suc h));
     }

@@ -14,6 +14,7 @@ use Rattle.store.specs.Rows.{rows_in}
 use Rattle.views.specs.Copies.{Apart}
 use Rattle.cases.specs.TablesIn.{TablesIn}
 use Rattle.cases.specs.Needs.{Needed, Asked, Covers}
+use Rattle.cases.specs.declared.needs.Needs.{Needs}
 use Rattle.cases.specs.Validity.{valid_in}
 use Rattle.cases.specs.Relations.{columns_of, ViewRows, IsRefuted}
 
@@ -29,30 +30,30 @@ memory_from counts signs work = record { counts = counts; signs = signs; work = 
 -- ---- one view
 
 -- where its sign is asked it is noted; what belongs to other relations stays
-pub record SignNoted (frame shape : List ℕ) (memory : Memory) (v : ℕ) (signs' : List ℕ) (work' : List ℤ) : Type 0 where
+pub record SignNoted (frame : List ℕ) (needs : Needs) (memory : Memory) (v : ℕ) (signs' : List ℕ) (work' : List ℤ) : Type 0 where
   pub apart : Apart v memory.work work'
   pub size : length signs' ≡ length memory.signs
   pub others : (i : ℕ) → (i ≡ v → ⊥) → get_or signs' i 0 ≡ get_or memory.signs i 0
-  pub noted : Asked shape v → v < length memory.signs
+  pub noted : Asked needs v → v < length memory.signs
       → (r : Bool) × IsRefuted frame memory.counts memory.signs memory.work v r work' × (get_or signs' v 0 ≡ cond r 1 0)
 
 -- where its rows are needed they are worked out; what belongs to other relations stays
-pub record RowsNoted (frame shape counts : List ℕ) (work : List ℤ) (v : ℕ) (counts' : List ℕ) (work' : List ℤ) : Type 0 where
+pub record RowsNoted (frame shape : List ℕ) (needs : Needs) (counts : List ℕ) (work : List ℤ) (v : ℕ) (counts' : List ℕ) (work' : List ℤ) : Type 0 where
   pub apart : Apart v work work'
   pub size : length counts' ≡ length counts
   pub others : (i : ℕ) → (i ≡ v → ⊥) → get_or counts' i 0 ≡ get_or counts i 0
-  pub noted : Needed shape v → v < length counts → ViewRows frame shape counts work v (get_or counts' v 0) work'
+  pub noted : Needed needs v → v < length counts → ViewRows frame shape counts work v (get_or counts' v 0) work'
 
 -- ---- all views
 
 -- below relation v, needed relations have their rows in the work area, and the signs of views that are asked are told
-pub record Known (F : File) (d : Database) (shape : List ℕ) (memory : Memory) (v : ℕ) : Type 0 where
-  pub rows-known : (i : ℕ) → i < v → Needed shape i → rows_in memory.work i (columns_of (schemas F) i) (get_or memory.counts i 0) ≡ rows F d i
-  pub signs-known : (i : ℕ) → length F.tables ≤ i → i < v → Asked shape i → get_or memory.signs i 0 ≡ cond (negative F d (suc i) i) 1 0
+pub record Known (F : File) (d : Database) (needs : Needs) (memory : Memory) (v : ℕ) : Type 0 where
+  pub rows-known : (i : ℕ) → i < v → Needed needs i → rows_in memory.work i (columns_of (schemas F) i) (get_or memory.counts i 0) ≡ rows F d i
+  pub signs-known : (i : ℕ) → length F.tables ≤ i → i < v → Asked needs i → get_or memory.signs i 0 ≡ cond (negative F d (suc i) i) 1 0
 
 -- what a database's evaluation rests on
-pub record Ready (F : File) (g : Goal) (d : Database) (source : Source) (memory : Memory) : Type 0 where
-  pub covers : Covers F g source.shape
+pub record Ready (F : File) (g : Goal) (d : Database) (needs : Needs) (memory : Memory) : Type 0 where
+  pub covers : Covers F g needs
   pub shaped : Shaped F d
   pub tables : TablesIn F d memory.counts memory.work
   pub whole : area ≤ length memory.work
@@ -72,10 +73,10 @@ pub record OnlyViews (o : Outline) (memory memory' : Memory) : Type 0 where
   pub counts : (i : ℕ) → (ViewIn o i → ⊥) → get_or memory'.counts i 0 ≡ get_or memory.counts i 0
   pub signs : (i : ℕ) → (ViewIn o i → ⊥) → get_or memory'.signs i 0 ≡ get_or memory.signs i 0
 
-pub record Evaluates (source : Source) (memory memory' : Memory) : Type 0 where
+pub record Evaluates (source : Source) (needs : Needs) (memory memory' : Memory) : Type 0 where
   pub kept : OnlyViews source.outline memory memory'
-  pub known : {F : File} {g : Goal} {d : Database} {ends : List ℤ} → FileIn F source ends → Ready F g d source memory
-      → Known F d source.shape memory' (length F.tables + length F.views)
+  pub known : {F : File} {g : Goal} {d : Database} {ends : List ℤ} → FileIn F source ends → Ready F g d needs memory
+      → Known F d needs memory' (length F.tables + length F.views)
 
 -- ---- the case
 
@@ -88,8 +89,8 @@ abbrev pub judged_further : Source → Memory → Bool
 judged_further source memory = source.outline.filled && valid_in source memory.counts memory.work
 
 -- on any arrays, what was evaluated and asked; and the case, of every legal file and every database of its row counts and value ranges
-pub record IsCase (source : Source) (g : GoalHere) (memory : Memory) (r : Bool) (memory' : Memory) : Type 0 where
+pub record IsCase (source : Source) (needs : Needs) (g : GoalHere) (memory : Memory) (r : Bool) (memory' : Memory) : Type 0 where
   pub early : judged_further source memory ≡ false → (r ≡ false) × (memory' ≡ memory)
-  pub late : judged_further source memory ≡ true → Evaluates source memory memory' × IsWanted g memory'.counts memory'.signs r
+  pub late : judged_further source memory ≡ true → Evaluates source needs memory memory' × IsWanted g memory'.counts memory'.signs r
   pub kept : OnlyViews source.outline memory memory'
-  pub case : {F : File} {d : Database} {ends : List ℤ} → FileIn F source ends → Ready F (goal_of g) d source memory → r ≡ is_case F (goal_of g) d
+  pub case : {F : File} {d : Database} {ends : List ℤ} → FileIn F source ends → Ready F (goal_of g) d needs memory → r ≡ is_case F (goal_of g) d

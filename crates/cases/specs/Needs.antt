@@ -1,5 +1,5 @@
--- Relations that a goal depends on, by flags in `shape`: 1 is set. Assumes nothing: these are definitions.
-use Rattle.std.specs.Prelude.{◌≡◌, ◌⊎◌, Bool, true, false, ◌&&◌, ◌||◌, cond, List, [], ◌∷◌, ◌++◌, ℕ, zero, suc, ◌+◌, ◌-◌, ◌<◌, eqb, ltb, leb, ℤ, length, get_or, set}
+-- Relations that a goal depends on, by flags of their rows and signs. Assumes nothing: these are definitions.
+use Rattle.std.specs.Prelude.{◌≡◌, Bool, true, false, ◌&&◌, ◌||◌, cond, List, [], ◌∷◌, ◌++◌, ℕ, zero, suc, ◌+◌, ◌-◌, ◌≤◌, ◌<◌, eqb, ltb, leb, ℤ, length, get_or, set, replicate}
 use Rattle.std.proofs.Math.Option.{some}
 use Rattle.value.specs.Bag.{All}
 use Rattle.meaning.specs.Syntax.{View, Goal, File}
@@ -7,45 +7,46 @@ use Rattle.meaning.specs.Algebra.{query}
 use Rattle.meaning.specs.Bounds.{names}
 use Rattle.language.specs.Legal.{NamesView}
 use Rattle.language.specs.Written.{view_bytes}
-use Rattle.catalog.specs.Arrays.{entry, needed_at, asked_at, FirstKept}
 use Rattle.catalog.specs.Frames.{frame_in, names_in}
 use Rattle.catalog.specs.FileIn.{Source, FileIn, goal_of}
 use Rattle.catalog.specs.declared.plan.Goal.{Goal as GoalHere}
+use Rattle.cases.specs.declared.needs.Needs.{Needs}
 
--- byte m of relation i is set
-pub record Flag (m : ℕ) (shape : List ℕ) (i : ℕ) : Type 0 where
-  pub on : get_or shape (entry i + m) 0 ≡ 1
+-- relation i has a flag
+pub record Flag (flags : List Bool) (i : ℕ) : Type 0 where
+  pub on : get_or flags i false ≡ true
 
 -- its rows are needed, and it is asked whether it is negative
-abbrev pub flag_of : Bool → ℕ
-flag_of asked = cond asked 7 6
+abbrev pub Needed : Needs → ℕ → Type 0
+Needed needs = Flag needs.rows
 
-abbrev pub Needed : List ℕ → ℕ → Type 0
-Needed shape = Flag 6 shape
-
-abbrev pub Asked : List ℕ → ℕ → Type 0
-Asked shape = Flag 7 shape
+abbrev pub Asked : Needs → ℕ → Type 0
+Asked needs = Flag needs.signs
 
 -- what tells whether a view is negative: the rows of the relations that it names or, of a set view, whether both operands are negative
-abbrev pub Asks : List ℕ → View → Type 0
-Asks shape (View.basic fs w es) = All (Needed shape) (names (View.basic fs w es))
-Asks shape (View.grouped fs w gs h es) = All (Needed shape) (names (View.grouped fs w gs h es))
-Asks shape (View.set op i j) = Asked shape i × Asked shape j
+abbrev pub Asks : Needs → View → Type 0
+Asks needs (View.basic fs w es) = All (Needed needs) (names (View.basic fs w es))
+Asks needs (View.grouped fs w gs h es) = All (Needed needs) (names (View.grouped fs w gs h es))
+Asks needs (View.set op i j) = Asked needs i × Asked needs j
+
+-- the flags of signs, or those of rows
+abbrev pub flags_of : Bool → Needs → List Bool
+flags_of asked needs = cond asked needs.signs needs.rows
 
 -- what tells of a goal: its sign, or its rows
-abbrev pub Wants : List ℕ → Bool → ℕ → Type 0
-Wants shape negative v = Flag (flag_of negative) shape v
+abbrev pub Wants : Needs → Bool → ℕ → Type 0
+Wants needs negative v = Flag (flags_of negative needs) v
 
 -- g is a view of the file, as its own goal is
 abbrev pub GoalIn : File → Goal → Type 0
 GoalIn F g = NamesView (length F.tables) (length F.tables + length F.views) g.view
 
 -- the flags are those of all relations that the goal depends on, and perhaps others
-pub record Covers (F : File) (g : Goal) (shape : List ℕ) : Type 0 where
+pub record Covers (F : File) (g : Goal) (needs : Needs) : Type 0 where
   pub view : GoalIn F g
-  pub goal : Wants shape g.negative g.view
-  pub rows : (v : ℕ) (q : View) → query (length F.tables) F v ≡ some q → Needed shape v → All (Needed shape) (names q)
-  pub signs : (v : ℕ) (q : View) → query (length F.tables) F v ≡ some q → Asked shape v → Asks shape q
+  pub goal : Wants needs g.negative g.view
+  pub rows : (v : ℕ) (q : View) → query (length F.tables) F v ≡ some q → Needed needs v → All (Needed needs) (names q)
+  pub signs : (v : ℕ) (q : View) → query (length F.tables) F v ≡ some q → Asked needs v → Asks needs q
 
 -- ---- what the code gives
 
@@ -55,16 +56,32 @@ own_conditions (View.basic fs w es) = true
 own_conditions (View.grouped fs w gs h es) = true
 own_conditions (View.set op i j) = false
 
--- flags are only ever set, and no other byte changes
-pub record More (shape shape' : List ℕ) : Type 0 where
-  pub first : FirstKept 6 shape shape'
-  pub kept : (m i : ℕ) → Flag m shape i → Flag m shape' i
-  pub byte : (k : ℕ) → (get_or shape' k 0 ≡ get_or shape k 0) ⊎ (get_or shape' k 0 ≡ 1)
+-- of no relation, and of every one
+abbrev pub no_flags : List Bool
+no_flags = replicate 16 false
 
--- byte m of each relation that is named is set, one after the other
-unfoldable pub set_flags : ℕ → List ℕ → List ℕ → List ℕ
-set_flags m [] shape = shape
-set_flags m (i ∷ is) shape = set_flags m is (set shape (entry i + m) 1)
+abbrev pub no_needs : Needs
+no_needs = record { rows = no_flags; signs = no_flags }
+
+abbrev pub all_needs : Needs
+all_needs = record { rows = replicate 16 true; signs = replicate 16 true }
+
+-- the flag of the goal's sign, or that of its rows
+unfoldable pub goal_needs : GoalHere → Needs
+goal_needs g = record {
+  rows = cond g.negative no_flags (set no_flags g.view true);
+  signs = cond g.negative (set no_flags g.view true) no_flags;
+}
+
+-- flags are only ever set
+pub record More (flags flags' : List Bool) : Type 0 where
+  pub size : length flags' ≡ length flags
+  pub kept : (i : ℕ) → Flag flags i → Flag flags' i
+
+-- the flag of each relation that is named is set, one after the other
+unfoldable pub set_flags : List ℕ → List Bool → List Bool
+set_flags [] flags = flags
+set_flags (i ∷ is) flags = set_flags is (set flags i true)
 
 -- the relation behind a byte 17 at place i, if it is before relation v. Not every byte 17 is a token, so that more than those into which the
 -- view looks may be named; nobody sees it, as rows that are not asked for change no answer
@@ -81,52 +98,48 @@ abbrev pub named_in : ℕ → List ℕ → List ℕ
 named_in v frame = names_in frame ++ behind_to v frame (length frame)
 
 -- the rows of what view v names are needed: its own are, or it is no set view and its sign is asked
-unfoldable pub with_rows : List ℕ → List ℕ → ℕ → List ℕ
-with_rows frame shape v =
-    cond (eqb (needed_at shape v) 1 || (eqb (asked_at shape v) 1 && ltb (get_or frame 0 0) 5)) (set_flags 6 (named_in v frame) shape) shape
+unfoldable pub with_rows : List ℕ → Needs → ℕ → Needs
+with_rows frame needs v =
+    cond (get_or needs.rows v false || (get_or needs.signs v false && ltb (get_or frame 0 0) 5))
+    (record { rows = set_flags (named_in v frame) needs.rows; signs = needs.signs }) needs
 
 -- the signs of what view v names are asked: it is a set view, and its own is asked
-unfoldable pub with_signs : List ℕ → List ℕ → ℕ → List ℕ
-with_signs frame shape v = cond (eqb (asked_at shape v) 1 && leb 5 (get_or frame 0 0)) (set_flags 7 (names_in frame) shape) shape
+unfoldable pub with_signs : List ℕ → Needs → ℕ → Needs
+with_signs frame needs v =
+    cond (get_or needs.signs v false && leb 5 (get_or frame 0 0))
+    (record { rows = needs.rows; signs = set_flags (names_in frame) needs.signs }) needs
 
 -- both, for n views from relation t on, from the last down
-unfoldable pub with_needs : List ℕ → ℕ → ℕ → List ℕ → List ℕ
-with_needs bytes t zero shape = shape
-with_needs bytes t (suc n) shape =
-    let frame = frame_in bytes shape (t + n) in with_needs bytes t n (with_signs frame (with_rows frame shape (t + n)) (t + n))
+unfoldable pub with_needs : List ℕ → List ℕ → ℕ → ℕ → Needs → Needs
+with_needs bytes shape t zero needs = needs
+with_needs bytes shape t (suc n) needs =
+    let frame = frame_in bytes shape (t + n) in with_needs bytes shape t n (with_signs frame (with_rows frame needs (t + n)) (t + n))
 
-pub record NamesSet (m : ℕ) (is shape shape' : List ℕ) : Type 0 where
-  pub here : shape' ≡ set_flags m is shape
-  pub more : More shape shape'
-  pub named : length shape ≡ 128 → All (λ i. i < 16) is → All (Flag m shape') is
+pub record NamesSet (is : List ℕ) (flags flags' : List Bool) : Type 0 where
+  pub here : flags' ≡ set_flags is flags
+  pub more : More flags flags'
+  pub named : length flags ≡ 16 → All (λ i. i < 16) is → All (Flag flags') is
   -- and none but these
-  pub others : (k : ℕ) → All (λ j. k ≡ entry j + m → ⊥) is → get_or shape' k 0 ≡ get_or shape k 0
+  pub others : (k : ℕ) → All (λ j. k ≡ j → ⊥) is → get_or flags' k false ≡ get_or flags k false
 
--- both flags of the first n relations, where the array has them, and nothing else
-pub record AllSet (n : ℕ) (shape shape' : List ℕ) : Type 0 where
-  pub more : More shape shape'
-  pub flag : (asked : Bool) (i : ℕ) → i < n → entry i + flag_of asked < length shape → Flag (flag_of asked) shape' i
-  pub others : (k : ℕ) → ((asked : Bool) (i : ℕ) → i < n → k ≡ entry i + flag_of asked → ⊥) → get_or shape' k 0 ≡ get_or shape k 0
+pub record NeedsRows (frame : List ℕ) (needs : Needs) (v : ℕ) (needs' : Needs) : Type 0 where
+  pub here : needs' ≡ with_rows frame needs v
+  pub more : More needs.rows needs'.rows
+  pub signs-kept : needs'.signs ≡ needs.signs
+  pub for-rows : (q : View) → frame ≡ view_bytes q → length needs.rows ≡ 16 → v < 16 → All (λ i. i < v) (names q) → Needed needs v → All (Needed needs') (names q)
+  pub for-sign : (q : View) → frame ≡ view_bytes q → length needs.rows ≡ 16 → v < 16 → All (λ i. i < v) (names q) → own_conditions q ≡ true → Asked needs v
+      → All (Needed needs') (names q)
+  pub others : (q : View) → frame ≡ view_bytes q → All (λ i. i < v) (names q) → (k : ℕ) → v ≤ k → get_or needs'.rows k false ≡ get_or needs.rows k false
 
-pub record NeedsRows (frame shape : List ℕ) (v : ℕ) (shape' : List ℕ) : Type 0 where
-  pub here : shape' ≡ with_rows frame shape v
-  pub more : More shape shape'
-  pub for-rows : (q : View) → frame ≡ view_bytes q → length shape ≡ 128 → v < 16 → All (λ i. i < v) (names q) → Needed shape v → All (Needed shape') (names q)
-  pub for-sign : (q : View) → frame ≡ view_bytes q → length shape ≡ 128 → v < 16 → All (λ i. i < v) (names q) → own_conditions q ≡ true → Asked shape v
-      → All (Needed shape') (names q)
-  pub others : (q : View) → frame ≡ view_bytes q → All (λ i. i < v) (names q) → (k : ℕ) → ((j : ℕ) → j < v → k ≡ entry j + 6 → ⊥) → get_or shape' k 0 ≡ get_or shape k 0
+pub record NeedsSigns (frame : List ℕ) (needs : Needs) (v : ℕ) (needs' : Needs) : Type 0 where
+  pub here : needs' ≡ with_signs frame needs v
+  pub more : More needs.signs needs'.signs
+  pub rows-kept : needs'.rows ≡ needs.rows
+  pub for-sign : (q : View) → frame ≡ view_bytes q → length needs.signs ≡ 16 → v < 16 → All (λ i. i < v) (names q) → own_conditions q ≡ false → Asked needs v
+      → All (Asked needs') (names q)
+  pub others : (q : View) → frame ≡ view_bytes q → All (λ i. i < v) (names q) → (k : ℕ) → v ≤ k → get_or needs'.signs k false ≡ get_or needs.signs k false
 
-pub record NeedsSigns (frame shape : List ℕ) (v : ℕ) (shape' : List ℕ) : Type 0 where
-  pub here : shape' ≡ with_signs frame shape v
-  pub more : More shape shape'
-  pub for-sign : (q : View) → frame ≡ view_bytes q → length shape ≡ 128 → v < 16 → All (λ i. i < v) (names q) → own_conditions q ≡ false → Asked shape v
-      → All (Asked shape') (names q)
-  pub others : (q : View) → frame ≡ view_bytes q → All (λ i. i < v) (names q) → (k : ℕ) → ((j : ℕ) → j < v → k ≡ entry j + 7 → ⊥) → get_or shape' k 0 ≡ get_or shape k 0
-
--- which flags are set, of any bytes and arrays; that they are those that the goal depends on, of a file in memory. Every byte that is no flag
--- stays, so that the file stays in memory
-pub record NeedsOf (source : Source) (g : GoalHere) (shape' : List ℕ) : Type 0 where
-  pub here : let o = source.outline in
-      shape' ≡ with_needs source.bytes o.tables (o.relations - o.tables) (set source.shape (entry g.view + flag_of g.negative) 1)
-  pub more : More source.shape shape'
-  pub covers : {F : File} {ends : List ℤ} → FileIn F source ends → GoalIn F (goal_of g) → Covers F (goal_of g) shape'
+-- which flags are set, of any bytes and arrays; that they are those that the goal depends on, of a file in memory
+pub record NeedsOf (source : Source) (g : GoalHere) (needs : Needs) : Type 0 where
+  pub here : let o = source.outline in needs ≡ with_needs source.bytes source.shape o.tables (o.relations - o.tables) (goal_needs g)
+  pub covers : {F : File} {ends : List ℤ} → FileIn F source ends → GoalIn F (goal_of g) → Covers F (goal_of g) needs

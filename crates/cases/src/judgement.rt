@@ -2,18 +2,19 @@
 ghost use Rattle.catalog.specs.FileIn.{source_from};
 ghost use Rattle.cases.specs.Judgement.{memory_from, SignNoted, RowsNoted, Evaluates, IsWanted, IsCase};
 
+use super::needs::Needs;
 use super::{relation, validity};
+use catalog::frames;
 use catalog::outline::Outline;
 use catalog::plan::Goal;
-use catalog::{arrays, frames};
 use value::boolean;
 
 // Whether view v is negative, if it is asked.
-fn note_sign(frame: &[u8], shape: &[u8], counts: &[u8], signs: &mut [u8], work: &mut [i32], v: u8)
-    ensures { SignNoted frame.now shape.now
+fn note_sign(frame: &[u8], needs: &Needs, counts: &[u8], signs: &mut [u8], work: &mut [i32], v: u8)
+    ensures { SignNoted frame.now needs.now
         (memory_from counts.now signs.old work.old) v signs.new work.new }
 {
-    if !arrays::is_asked(shape, v) {
+    if !slice::item_at(&needs.signs, v as usize, false) {
         return;
     }
     let sign = relation::is_refuted(frame, counts, signs, work, v);
@@ -21,10 +22,10 @@ fn note_sign(frame: &[u8], shape: &[u8], counts: &[u8], signs: &mut [u8], work: 
 }
 
 // The rows of view v, if they are needed, and their number.
-fn note_rows(frame: &[u8], shape: &[u8], counts: &mut [u8], work: &mut [i32], v: u8)
-    ensures { RowsNoted frame.now shape.now counts.old work.old v counts.new work.new }
+fn note_rows(frame: &[u8], shape: &[u8], needs: &Needs, counts: &mut [u8], work: &mut [i32], v: u8)
+    ensures { RowsNoted frame.now shape.now needs.now counts.old work.old v counts.new work.new }
 {
-    if !arrays::is_needed(shape, v) {
+    if !slice::item_at(&needs.rows, v as usize, false) {
         return;
     }
     let n = relation::view_rows(frame, shape, counts, work, v);
@@ -40,20 +41,19 @@ pub fn evaluate(
     bytes: &[u8],
     shape: &[u8],
     o: Outline,
+    needs: &Needs,
     counts: &mut [u8],
     signs: &mut [u8],
     work: &mut [i32],
 )
-    ensures { Evaluates (source_from bytes.now shape.now o)
+    ensures { Evaluates (source_from bytes.now shape.now o) needs.now
         (memory_from counts.old signs.old work.old)
         (memory_from counts.new signs.new work.new) }
 {
-    let mut v = o.tables;
-    while v < o.relations {
+    for v in o.tables..o.relations {
         let frame = frames::frame_of(bytes, shape, v);
-        note_sign(frame, shape, counts, signs, work, v);
-        note_rows(frame, shape, counts, work, v);
-        v += 1;
+        note_sign(frame, needs, counts, signs, work, v);
+        note_rows(frame, shape, needs, counts, work, v);
     }
 }
 
@@ -75,12 +75,13 @@ pub fn is_case(
     bytes: &[u8],
     shape: &[u8],
     o: Outline,
+    needs: &Needs,
     goal: Goal,
     counts: &mut [u8],
     signs: &mut [u8],
     work: &mut [i32],
 ) -> bool
-    ensures { IsCase (source_from bytes.now shape.now o) goal
+    ensures { IsCase (source_from bytes.now shape.now o) needs.now goal
         (memory_from counts.old signs.old work.old) result
         (memory_from counts.new signs.new work.new) }
 {
@@ -90,6 +91,6 @@ pub fn is_case(
     if !validity::is_valid(bytes, shape, o, counts, work) {
         return false;
     }
-    evaluate(bytes, shape, o, counts, signs, work);
+    evaluate(bytes, shape, o, needs, counts, signs, work);
     wanted(goal, counts, signs)
 }

@@ -1,40 +1,71 @@
 // The relations that a goal depends on: whose rows are needed, and of which it is asked whether they are negative.
-ghost use Rattle.std.specs.Prelude.{◌≡◌, ◌+◌, ◌<◌, length, set};
-ghost use Rattle.catalog.specs.Arrays.{entry};
+ghost use Rattle.std.specs.Prelude.{◌≡◌, ◌<◌, length};
 ghost use Rattle.catalog.specs.FileIn.{source_from};
-ghost use Rattle.cases.specs.Needs.{flag_of, set_flags, behind_at, behind_to, named_in, NamesSet, AllSet, NeedsRows, NeedsSigns, NeedsOf};
+ghost use Rattle.cases.specs.Needs.{no_needs, all_needs, goal_needs, set_flags, behind_at, behind_to, named_in, NamesSet, NeedsRows, NeedsSigns, NeedsOf};
 
+use catalog::frames;
 use catalog::outline::Outline;
 use catalog::plan::Goal;
-use catalog::{arrays, frames};
 
-// A flag of a relation: that its sign is asked, or that its rows are needed.
-fn set_flag(shape: &mut [u8], r: u8, asked: bool)
-    ensures { shape.new ≡ set shape.old (entry r + flag_of asked) 1 }
-{
-    if asked {
-        arrays::set_asked(shape, r);
-        return;
-    }
-    arrays::set_needed(shape, r);
+// Of each relation, whether its rows are needed, and whether it is asked if it is negative.
+#[derive(Clone, Copy)]
+pub struct Needs {
+    pub rows: [bool; 16],
+    pub signs: [bool; 16],
 }
 
-// That flag of the relations that are named.
-fn set_names(names: &[u8], shape: &mut [u8], asked: bool)
-    ensures { NamesSet (flag_of asked) names.now shape.old shape.new }
-{
-    let mut i: usize = 0;
-    while i < names.len() {
-        let named = slice::item_at(names, i, 0);
-        set_flag(shape, named, asked);
-        i += 1;
+impl Needs {
+    // Of no relation.
+    // Refused: the rows of each; the sign of the first.
+    pub fn none() -> Needs
+        ensures { result ≡ no_needs }
+    {
+        Needs {
+            rows: [false; 16],
+            signs: [false; 16],
+        }
+    }
+
+    // The rows and the sign of every relation.
+    // Refused: of 15 relations; a flag of relation 16.
+    pub fn all() -> Needs
+        ensures { result ≡ all_needs }
+    {
+        Needs {
+            rows: [true; 16],
+            signs: [true; 16],
+        }
+    }
+
+    // What a goal asks itself: its sign, or its rows.
+    // Refused: the other flag; the first relation's rows.
+    pub fn of_goal(goal: Goal) -> Needs
+        ensures { result ≡ goal_needs goal }
+    {
+        let mut needs = Needs::none();
+        let at = goal.view as usize;
+        if goal.negative {
+            slice::put_item(&mut needs.signs, at, true);
+        } else {
+            slice::put_item(&mut needs.rows, at, true);
+        }
+        needs
     }
 }
 
-// That the rows of the relation behind a byte 17 at place i are needed, if it is before relation v.
-fn set_behind(frame: &[u8], shape: &mut [u8], i: usize, v: u8)
+// The flags of the relations that are named.
+fn set_names(names: &[u8], flags: &mut [bool])
+    ensures { NamesSet names.now flags.old flags.new }
+{
+    for named in names {
+        slice::put_item(flags, *named as usize, true);
+    }
+}
+
+// The flag of the relation behind a byte 17 at place i, if it is before relation v.
+fn set_behind(frame: &[u8], flags: &mut [bool], i: usize, v: u8)
     requires { i < length frame.now }
-    ensures { shape.new ≡ set_flags 6 (behind_at v frame.now i) shape.old }
+    ensures { flags.new ≡ set_flags (behind_at v frame.now i) flags.old }
 {
     if slice::item_at(frame, i, 0) != 0x17 {
         return;
@@ -43,85 +74,65 @@ fn set_behind(frame: &[u8], shape: &mut [u8], i: usize, v: u8)
     if v <= named {
         return;
     }
-    arrays::set_needed(shape, named);
+    slice::put_item(flags, named as usize, true);
 }
 
 // The same at every place of a frame: the relations into which view v looks.
-fn set_looked(frame: &[u8], shape: &mut [u8], v: u8)
-    ensures { NamesSet 6 (behind_to v frame.now (length frame.now)) shape.old shape.new }
+fn set_looked(frame: &[u8], flags: &mut [bool], v: u8)
+    ensures { NamesSet (behind_to v frame.now (length frame.now)) flags.old flags.new }
 {
-    let mut i: usize = 0;
-    while i < frame.len() {
-        set_behind(frame, shape, i, v);
-        i += 1;
+    for i in 0..frame.len() {
+        set_behind(frame, flags, i, v);
     }
 }
 
-// That the rows of all relations that the frame of view v names are needed.
-fn set_named(frame: &[u8], shape: &mut [u8], v: u8)
-    ensures { NamesSet 6 (named_in v frame.now) shape.old shape.new }
+// The flags of all relations that the frame of view v names.
+fn set_named(frame: &[u8], flags: &mut [bool], v: u8)
+    ensures { NamesSet (named_in v frame.now) flags.old flags.new }
 {
-    set_names(frames::names(frame), shape, false);
-    set_looked(frame, shape, v);
+    set_names(frames::names(frame), flags);
+    set_looked(frame, flags, v);
 }
 
-// Both flags of every relation.
-// Refused: of 15 relations; a flag of relation 16.
-pub fn set_all(shape: &mut [u8])
-    ensures { AllSet 16 shape.old shape.new }
-{
-    let mut i: u8 = 0;
-    while i < 16 {
-        arrays::set_needed(shape, i);
-        arrays::set_asked(shape, i);
-        i += 1;
-    }
-}
-
-// The rows that view v needs: those of the relations that its frame names, if its own rows are needed or it is no set view and its sign
+// With the rows that view v needs: those of the relations that its frame names, if its own rows are needed or it is no set view and its sign
 // is asked.
-fn need_rows(frame: &[u8], shape: &mut [u8], v: u8)
-    ensures { NeedsRows frame.now shape.old v shape.new }
+fn need_rows(frame: &[u8], needs: Needs, v: u8) -> Needs
+    ensures { NeedsRows frame.now needs v result }
 {
-    if arrays::is_needed(shape, v) {
-        set_named(frame, shape, v);
-        return;
+    let needed = slice::item_at(&needs.rows, v as usize, false);
+    let asked = slice::item_at(&needs.signs, v as usize, false);
+    if !(needed | (asked & (slice::item_at(frame, 0, 0) < 5))) {
+        return needs;
     }
-    if !arrays::is_asked(shape, v) {
-        return;
-    }
-    if 5 <= slice::item_at(frame, 0, 0) {
-        return;
-    }
-    set_named(frame, shape, v);
+    let mut all = needs;
+    set_named(frame, &mut all.rows, v);
+    all
 }
 
-// The signs that view v asks: those of both operands, if it is a set view and its own is asked.
-fn need_signs(frame: &[u8], shape: &mut [u8], v: u8)
-    ensures { NeedsSigns frame.now shape.old v shape.new }
+// With the signs that view v asks: those of both operands, if it is a set view and its own is asked.
+fn need_signs(frame: &[u8], needs: Needs, v: u8) -> Needs
+    ensures { NeedsSigns frame.now needs v result }
 {
-    if !arrays::is_asked(shape, v) {
-        return;
+    let asked = slice::item_at(&needs.signs, v as usize, false);
+    if !(asked & (5 <= slice::item_at(frame, 0, 0))) {
+        return needs;
     }
-    if slice::item_at(frame, 0, 0) < 5 {
-        return;
-    }
-    let names = frames::names(frame);
-    set_names(names, shape, true);
+    let mut all = needs;
+    set_names(frames::names(frame), &mut all.signs);
+    all
 }
 
-// The flags of all relations that the goal depends on are set, from the last relation down. Which flags these are is said of every input; that
-// none is left out, of a file in memory.
+// What a goal depends on, from the last relation down. Which flags these are is said of every input; that none is left out, of a file in
+// memory.
 // Refused: the goal alone; what the first relation names for each.
-pub fn needs_of(bytes: &[u8], shape: &mut [u8], o: Outline, goal: Goal)
-    ensures { NeedsOf (source_from bytes.now shape.old o) goal shape.new }
+pub fn needs_of(bytes: &[u8], shape: &[u8], o: Outline, goal: Goal) -> Needs
+    ensures { NeedsOf (source_from bytes.now shape.now o) goal result }
 {
-    set_flag(shape, goal.view, goal.negative);
-    let mut v = o.relations;
-    while o.tables < v {
-        v -= 1;
+    let mut needs = Needs::of_goal(goal);
+    for v in (o.tables..o.relations).rev() {
         let frame = frames::frame_of(bytes, shape, v);
-        need_rows(frame, shape, v);
-        need_signs(frame, shape, v);
+        needs = need_rows(frame, needs, v);
+        needs = need_signs(frame, needs, v);
     }
+    needs
 }

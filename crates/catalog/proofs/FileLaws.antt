@@ -20,7 +20,7 @@ use Rattle.meaning.proofs.Stacks.{stack-keeps}
 use Rattle.language.specs.Legal.{LegalColumn, LegalTable, table_at}
 pub use Rattle.catalog.specs.Arrays.{no_column}
 use Rattle.catalog.specs.Arrays.{width_at, bound_at, start_at, ranges_from, schema_in, range_at, column_at, FirstKept}
-use Rattle.catalog.specs.FileIn.{TablesKnown, Source, with_flags, FileIn}
+use Rattle.catalog.specs.FileIn.{TablesKnown, Source, FileIn}
 use Rattle.catalog.proofs.ArrayLaws.{none, length-ranges}
 
 -- a table's schema is what it declares
@@ -55,10 +55,6 @@ tables-in {ts} {shape} {ends} legal known = record {
 pub schema-kept : {n : ℕ} {shape shape' : List ℕ} (ends : List ℤ) → FirstKept n shape shape' → 4 ≤ n → (i : ℕ) → schema_in shape' ends i ≡ schema_in shape ends i
 schema-kept ends k h i = ap₂ (λ b m. record { bound = b; ranges = ranges_from ends (16 * i) m }) (k.byte i 2 (omega arith)) (k.byte i 1 (omega arith))
 
-pub column-kept : {n : ℕ} {shape shape' : List ℕ} (ends : List ℤ) → FirstKept n shape shape' → 4 ≤ n → (i c : ℕ) → column_at shape' ends i c ≡ column_at shape ends i c
-unfolding column_at
-column-kept ends k h i c = rw (k.byte i 1 (omega arith))
-
 module _ {F : File} {source : Source} {ends : List ℤ} (M : FileIn F source ends) where
   pub width_is : (i : ℕ) → width_at source.shape i ≡ length (schema (schemas F) i).ranges
   width_is i = sym (length-ranges ends (16 * i) (width_at source.shape i)) ∙ ap (λ (s : Schema). length s.ranges) (M.known i)
@@ -79,19 +75,3 @@ module _ {F : File} {source : Source} {ends : List ℤ} (M : FileIn F source end
   pub column-is : (t c : ℕ) → t < length F.tables → c < length (table_at F.tables t).columns
       → column_at source.shape ends t c ≡ get_or (table_at F.tables t).columns c no_column
   column-is = tables-are.column
-
-  -- the flags are no part of it
-  pub file-kept : {shape' : List ℕ} → FirstKept 6 source.shape shape' → FileIn F (with_flags source shape') ends
-  unfolding start_at
-  file-kept {shape'} k = record {
-    legal = M.legal;
-    sized = k.size ∙ M.sized;
-    tables = M.tables;
-    keys = M.keys;
-    relations = M.relations;
-    views = λ v q e. rw (k.byte v 4 (omega arith), k.byte v 5 (omega arith)) (M.views v q e);
-    foreign = M.foreign;
-    known = λ i. schema-kept ends k (omega arith) i ∙ M.known i;
-    masks = λ i h. k.byte i 3 (omega arith) ∙ M.masks i h;
-    filled = M.filled;
-  }

@@ -1,5 +1,5 @@
 -- What is known of each relation, in two arrays: eight bytes for each relation (kind, columns, row bound, key mask, the place of its frame
--- in two bytes, and two flags), and sixteen numbers for each, lo and hi of up to 8 columns. Past the end everything is 0. Assumes nothing:
+-- in two bytes, and two that nothing reads), and sixteen numbers for each, lo and hi of up to 8 columns. Past the end everything is 0. Assumes nothing:
 -- these are definitions.
 use Rattle.std.specs.Prelude.{◌≡◌, List, [], ◌∷◌, map, ℕ, zero, suc, ◌+◌, ◌*◌, ◌/◌, ◌%◌, ◌≤◌, ◌<◌, ℤ, pos, length, get_or, set}
 use Rattle.value.specs.Integer.{narrow16}
@@ -28,13 +28,6 @@ mask_at shape r = get_or shape (entry r + 3) 0
 -- the place of its frame, the high byte first
 unfoldable pub start_at : List ℕ → ℕ → ℕ
 start_at shape r = 256 * get_or shape (entry r + 4) 0 + get_or shape (entry r + 5) 0
-
--- the flags of a search, 1 where its rows are needed and 1 where it is asked whether it is negative
-abbrev pub needed_at : List ℕ → ℕ → ℕ
-needed_at shape r = get_or shape (entry r + 6) 0
-
-abbrev pub asked_at : List ℕ → ℕ → ℕ
-asked_at shape r = get_or shape (entry r + 7) 0
 
 -- n ranges, from a place on
 unfoldable pub ranges_from : List ℤ → ℕ → ℕ → List Range
@@ -76,12 +69,6 @@ put_shape shape r kind width bound mask =
 -- of a place below 65,536
 unfoldable pub put_start : List ℕ → ℕ → ℕ → List ℕ
 put_start shape r at = set (set shape (entry r + 4) (at / 256 % 256)) (entry r + 5) (at % 256)
-
-abbrev pub set_needed : List ℕ → ℕ → List ℕ
-set_needed shape r = set shape (entry r + 6) 1
-
-abbrev pub set_asked : List ℕ → ℕ → List ℕ
-set_asked shape r = set shape (entry r + 7) 1
 
 -- the first n bytes of each relation are as they were
 pub record FirstKept (n : ℕ) (shape shape' : List ℕ) : Type 0 where

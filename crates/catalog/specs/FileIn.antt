@@ -15,6 +15,7 @@ use Rattle.catalog.specs.Frames.{frame_in}
 use Rattle.catalog.specs.declared.outline.Outline.{Outline}
 use Rattle.catalog.specs.declared.plan.Goal.{Goal as GoalHere}
 use Rattle.catalog.specs.declared.plan.Plan.{Plan}
+use Rattle.catalog.specs.declared.source.Source.{Source as Lent}
 
 -- tables, the first relations: how many rows and columns the arrays say each has, and which columns
 pub record TablesKnown (ts : List Table) (shape : List ℕ) (ends : List ℤ) : Type 0 where
@@ -31,9 +32,9 @@ pub record Source : Type 0 where
 abbrev pub source_from : List ℕ → List ℕ → Outline → Source
 source_from bytes shape o = record { bytes = bytes; shape = shape; outline = o }
 
--- the same frames, with other flags
-abbrev pub with_flags : Source → List ℕ → Source
-with_flags source shape = record { bytes = source.bytes; shape = shape; outline = source.outline }
+-- the same of what the code is lent
+abbrev pub source_in : Lent → Source
+source_in s = source_from s.bytes.now s.shape.now s.outline
 
 pub record FileIn (F : File) (source : Source) (ends : List ℤ) : Type 0 where
   pub legal : Legal F

@@ -1,8 +1,8 @@
-// What is known of each relation, in two arrays: its kind, columns, row bound, key mask, the place of its frame and two flags, and the
-// ranges of its columns.
-ghost use Rattle.std.specs.Prelude.{◌≡◌, ◌+◌, ◌*◌, eqb, pos, get_or, set};
+// What is known of each relation, in two arrays: its kind, columns, row bound, key mask, and the place of its frame, and the ranges of its
+// columns.
+ghost use Rattle.std.specs.Prelude.{◌≡◌, ◌+◌, ◌*◌, pos, get_or, set};
 ghost use Rattle.value.specs.Machine.{column_of};
-ghost use Rattle.catalog.specs.Arrays.{width_at, bound_at, mask_at, start_at, needed_at, asked_at, range_at, column_at, put_range, put_shape, put_start, set_needed, set_asked};
+ghost use Rattle.catalog.specs.Arrays.{width_at, bound_at, mask_at, start_at, range_at, column_at, put_range, put_shape, put_start};
 
 use range::Range;
 use slice::{item_at, put_item};
@@ -45,22 +45,6 @@ pub(crate) fn start_of(shape: &[u8], r: u8) -> usize
     let high = item_at(shape, at + 4, 0) as usize;
     let low = item_at(shape, at + 5, 0) as usize;
     256 * high + low
-}
-
-// Whether a search needs its rows.
-// Refused: where they are not needed; whether its sign is asked.
-pub fn is_needed(shape: &[u8], r: u8) -> bool
-    ensures { result ≡ eqb (needed_at shape.now r) 1 }
-{
-    item_at(shape, ENTRY * (r as usize) + 6, 0) == 1
-}
-
-// Whether a search asks if it is negative.
-// Refused: where it is not asked; whether it is asked of the first relation.
-pub fn is_asked(shape: &[u8], r: u8) -> bool
-    ensures { result ≡ eqb (asked_at shape.now r) 1 }
-{
-    item_at(shape, ENTRY * (r as usize) + 7, 0) == 1
 }
 
 // The number at a place; 0 past the end.
@@ -141,20 +125,4 @@ pub fn put_start(shape: &mut [u8], r: u8, start: u32)
     let at = ENTRY * (r as usize);
     put_item(shape, at + 4, (start / 256 % 256) as u8);
     put_item(shape, at + 5, (start % 256) as u8);
-}
-
-// The relation's rows are needed.
-// Refused: the other flag; the first relation's.
-pub fn set_needed(shape: &mut [u8], r: u8)
-    ensures { shape.new ≡ set_needed shape.old r }
-{
-    put_item(shape, ENTRY * (r as usize) + 6, 1);
-}
-
-// It is asked whether the relation is negative.
-// Refused: not asked; the first relation's.
-pub fn set_asked(shape: &mut [u8], r: u8)
-    ensures { shape.new ≡ set_asked shape.old r }
-{
-    put_item(shape, ENTRY * (r as usize) + 7, 1);
 }

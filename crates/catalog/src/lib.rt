@@ -6,3 +6,4 @@ pub mod frames;
 pub mod items;
 pub mod outline;
 pub mod plan;
+pub mod source;

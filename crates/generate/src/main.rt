@@ -1,52 +1,34 @@
 // The program: a rule file on standard input, its first case, "no case" or its refusal on standard output.
 #![tactic(auto)]
 
-ghost use Rattle.std.specs.Prelude.{◌≡◌, ◌≤◌, length};
-ghost use Rattle.language.specs.OutputOf.{input_room, output_of};
-ghost use Rattle.input.specs.Input.{Reads};
+use input::Program;
 
-use input::Input;
-use std::io::Read;
+// Its output by the definition. A full buffer for the input is refused whatever follows.
+struct Generate;
 
-// The input, of which a buffer of this size settles the output: a full one is refused whatever follows.
-fn read_text<R: Read>(from: &mut R, text: &mut [u8]) -> Input
-    requires { input_room ≤ length text.old }
-    ensures { Reads (length text.new) result }
-{
-    input::read(from, text)
-}
+impl Program for Generate {
+    ghost use Rattle.language.specs.OutputOf.{input_room, output_room, output_of};
+    ghost use Rattle.language.proofs.InputLaws.{input-cut};
 
-// That the message cannot be written either is left unsaid.
-fn say_unreadable(rt: &impl Eprint) {
-    let _ = rt.eprintln("generate: the input cannot be read");
-}
+    ghost printed = { output_of };
 
-fn say_unwritable(rt: &impl Eprint) {
-    let _ = rt.eprintln("generate: the output cannot be written");
-}
+    ghost room = { output_room };
 
-// Writes the output of a text.
-fn write_output(rt: &(impl Print + Eprint), text: &[u8], bytes: &[u8])
-    requires { bytes.now ≡ output_of text.now }
-{
-    let is_written = rt.write_all(bytes).is_ok();
-    if !is_written {
-        say_unwritable(rt);
+    ghost settling = { input_room };
+
+    fn name(&self) -> &'static str {
+        "generate"
     }
-}
 
-fn print_output(rt: &(impl Print + Eprint), text: &[u8]) {
-    let mut out = [0u8; report::ROOM];
-    let n = report::output(text, &mut out);
-    write_output(rt, text, &out[..n]);
+    fn output(&self, text: &[u8], out: &mut [u8]) -> usize {
+        report::output(text, out)
+    }
+
+    ghost settled = { input-cut };
 }
 
 fn main(rt: HostRuntime) {
     let mut text = [0u8; input::ROOM];
-    let input = read_text(&mut rt.stdin(), &mut text);
-    match input {
-        Input::More(n) => print_output(&rt, &text[..n]),
-        Input::End(n) => print_output(&rt, &text[..n]),
-        Input::Failed => say_unreadable(&rt),
-    }
+    let mut out = [0u8; report::ROOM];
+    input::run(&rt, &mut rt.stdin(), &Generate, &mut text, &mut out)
 }

@@ -1,72 +1,53 @@
 // Standard input, or another reader, into a lent buffer: whole, cut at the end of the buffer, or failed.
 #![tactic(auto)]
 
-ghost use Rattle.std.specs.Prelude.{◌≡◌, ◌<◌, ◌^◌, length, IfOk, MatchResult, pos, negsuc};
+mod program;
+
+ghost use Rattle.std.specs.Prelude.{◌≡◌, length};
 ghost use Rattle.input.specs.Input.{input_of, Reads};
 
+pub use program::{Program, run};
 use std::io;
 use std::io::Read;
 
 // How many bytes of an input settle what is printed: one more than a rule file may have (`input_room`).
 pub const ROOM: usize = 8193;
 
-// How far reading has come: more may follow behind so many bytes, the input ended behind so many, or a read failed.
+// How far reading has come: more may follow behind so many bytes, or the input ended behind so many.
 #[derive(Clone, Copy)]
 pub enum Input {
     More(usize),
     End(usize),
-    Failed,
 }
 
-// What a read answered, as one number: how many bytes it took, or -1 where it failed. A read that a signal interrupts before it moves a
-// byte is a failure too: `read` of std answers it with an error, and does not try again.
-fn number_of(answer: io::Result<usize>) -> isize
-    requires { IfOk answer (λ n. n < 2 ^ 63) }
-    ensures { MatchResult answer (λ n. result ≡ pos n) (λ _. result ≡ negsuc 0) }
-{
-    match answer {
-        Ok(n) => n as isize,
-        Err(_) => -1,
-    }
-}
-
-// What a read answered that came behind `done` bytes in a buffer of `room`. A read that fails is not taken for the end.
-fn next(got: isize, done: usize, room: usize) -> Input
+// What a read answered that came behind `done` bytes in a buffer of `room`. A read that fails is not taken for the end, and one that a
+// signal interrupts before it moves a byte is a failure too: `read` of std answers it with an error, and does not try again.
+#[tactic(auto, unfolding(crate::specs::Input::input_of))]
+fn next(got: io::Result<usize>, done: usize, room: usize) -> io::Result<Input>
     ensures { result ≡ input_of got done room }
 {
-    if got < 0 {
-        return Input::Failed;
+    match got? {
+        0 => Ok(Input::End(done)),
+        n => Ok(Input::More(done.saturating_add(n).min(room))),
     }
-    let n = got as usize;
-    if n == 0 {
-        return Input::End(done);
-    }
-    if room < done {
-        return Input::More(room);
-    }
-    if room - done < n {
-        return Input::More(room);
-    }
-    Input::More(done + n)
 }
 
 // Reads until the input ends, the buffer is full or a read fails. Which bytes are read is open: they are the reader's, and those of standard
 // input are the operating system's.
 // Refused: another answer for the last read's; twice as many bytes.
-pub fn read<R: Read>(from: &mut R, text: &mut [u8]) -> Input
+pub fn read<R: Read>(from: &mut R, text: &mut [u8]) -> io::Result<Input>
     ensures { Reads (length text.new) result }
 {
+    let room = text.len();
     let mut done = 0;
-    while done < text.len() {
-        let room = text.len();
-        let got = number_of(from.read(&mut text[done..]));
-        let input = next(got, done, room);
+    while done < room {
+        let input = next(from.read(&mut text[done..]), done, room)?;
         let Input::More(n) = input else {
-            return input;
+            return Ok(input);
         };
         done = n;
     }
-    Input::More(done)
+    Ok(Input::More(done))
 }
 
 #[cfg(test)]
@@ -98,7 +79,7 @@ mod tests {
         }
     }
 
-    fn read_trickle(left: usize, fails: bool, text: &mut [u8]) -> Input {
+    fn read_trickle(left: usize, fails: bool, text: &mut [u8]) -> io::Result<Input> {
         read(&mut Trickle { left, fails }, text)
     }
 
@@ -106,14 +87,14 @@ mod tests {
     #[test]
     fn reads_on(rt: HostRuntime) {
         let mut text = [0u8; 5];
-        assert!(rt; matches!(read_trickle(0, false, &mut text), Input::End(0)));
-        assert!(rt; matches!(read_trickle(3, false, &mut text), Input::End(3)));
+        assert!(rt; matches!(read_trickle(0, false, &mut text), Ok(Input::End(0))));
+        assert!(rt; matches!(read_trickle(3, false, &mut text), Ok(Input::End(3))));
         assert_eq!(rt; text, [7, 7, 7, 0, 0]);
-        assert!(rt; matches!(read_trickle(6, true, &mut text), Input::More(5)));
+        assert!(rt; matches!(read_trickle(6, true, &mut text), Ok(Input::More(5))));
         assert_eq!(rt; text, [7, 7, 7, 7, 7]);
         for left in 0..5 {
             let failed = read_trickle(left, true, &mut text);
-            assert!(rt; matches!(failed, Input::Failed), "behind {left}");
+            assert!(rt; failed.is_err(), "behind {left}");
         }
     }
 }

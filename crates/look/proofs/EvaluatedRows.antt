@@ -23,14 +23,15 @@ use Rattle.catalog.specs.FileIn.{source_of, PlanOf, TablesCounted}
 use Rattle.catalog.specs.declared.plan.Plan.{Plan}
 use Rattle.language.proofs.TextLaws.{accepted-text}
 use Rattle.store.specs.Layout.{area}
+use Rattle.cases.specs.declared.needs.Needs.{Needs}
 use Rattle.cases.specs.Needs.{Wants, NeedsOf}
 use Rattle.cases.specs.Judgement.{Memory, memory_from}
 use Rattle.look.specs.Cells.{CellsOf}
 use Rattle.look.specs.Moves.{places_from, CandidatePut, Moved}
 use Rattle.look.specs.Scans.{Setting}
-use Rattle.look.specs.Evaluations.{Prepared, flagged_source, Evaluated, Judged, RowsMean}
+use Rattle.look.specs.Evaluations.{Prepared, Evaluated, Judged, RowsMean}
 use Rattle.look.proofs.Standing.{digits-given}
-use Rattle.look.proofs.ScanLaws.{placed_at, moved_at, setting, ready, judged, digits-kept}
+use Rattle.look.proofs.ScanLaws.{placed_at, moved_at, setting, ready, judged}
 
 module _ (text : List ℕ) (F : File) (e : file_of text ≡ Outcome.accepted F) where
   well-formed : well_formed F ≡ true
@@ -40,15 +41,15 @@ module _ (text : List ℕ) (F : File) (e : file_of text ≡ Outcome.accepted F) 
   planned {p} c = subst (λ out. Plans out p) e c
 
   -- any candidate is prepared by the calls of a look up to its first test
-  pub placed : (p : Plan) {k : ℕ} {codes counts shape : List ℕ} {n : ℕ} {work work' : List ℤ} → Plans (file_of text) p
+  pub placed : (p : Plan) {k : ℕ} {codes counts : List ℕ} {needs : Needs} {n : ℕ} {work work' : List ℤ} → Plans (file_of text) p
       → CellsOf p.shape p.outline.tables (replicate 512 0) n codes → TablesCounted p.shape p.outline.tables (replicate 16 0) counts
-      → NeedsOf (source_of p) p.goal shape
+      → NeedsOf (source_of p) p.goal needs
       → area ≤ length work → CandidatePut (places_from p.shape p.ends codes n) k work work' → Prepared text F k
-  placed p {counts = counts} {shape} {work' = work'} c D C N whole P =
+  placed p {counts = counts} {needs} {work' = work'} c D C N whole P =
       let M = (planned c).file in
       record {
         plan = p;
-        shape = shape;
+        needs = needs;
         memory = memory_from counts (replicate 16 0) work';
         checked = c;
         flagged = N;
@@ -59,26 +60,26 @@ module _ (text : List ℕ) (F : File) (e : file_of text ≡ Outcome.accepted F) 
     plan-of : PlanOf F P.plan
     plan-of = planned P.checked
 
-    set-up : Setting F (flagged_source P) P.plan.ends P.plan.goal
+    set-up : Setting F (source_of P.plan) P.plan.ends P.needs P.plan.goal
     set-up = setting plan-of.file plan-of.goal P.flagged
 
     -- the next candidate is prepared by the test of this one and the move to that one
     pub moved : {r : Bool} {codes : List ℕ} {n next : ℕ} {memory' : Memory} {work'' : List ℤ} → CellsOf P.plan.shape P.plan.outline.tables (replicate 512 0) n codes
-        → Judged P r memory' → Moved (places_from P.shape P.plan.ends codes n) k next memory'.work work'' → Prepared text F next
+        → Judged P r memory' → Moved (places_from P.plan.shape P.plan.ends codes n) k next memory'.work work'' → Prepared text F next
     moved {memory' = memory'} {work''} D J M = record {
       plan = P.plan;
-      shape = P.shape;
+      needs = P.needs;
       memory = memory_from memory'.counts memory'.signs work'';
       checked = P.checked;
       flagged = P.flagged;
-      stands = moved_at set-up.file (digits-kept P.flagged.more.first (digits-given plan-of.file D refl)) J.kept M P.stands;
+      stands = moved_at set-up.file (digits-given plan-of.file D refl) J.kept M P.stands;
     }
 
     -- "Each view's rows, counted as a bag, are those of the Extended Relational Algebra"
-    pub evaluated-rows : {memory' : Memory} → Evaluated P memory' → RowsMean F (database F k) P.shape memory'
+    pub evaluated-rows : {memory' : Memory} → Evaluated P memory' → RowsMean F (database F k) P.needs memory'
     evaluated-rows E = record {
       relation = λ i h f. subst (MeaningOf F (database F k) i) (sym ((E.known set-up.file (ready set-up P.stands)).rows-known i h f)) (rows-mean F well-formed (database F k) i);
-      goal = λ s. subst (λ b. Wants P.shape b F.goal.view) s set-up.covers.goal;
+      goal = λ s. subst (λ b. Wants P.needs b F.goal.view) s set-up.covers.goal;
     }
 
     -- "a database is a positive or negative case exactly by Definitions 1 to 4"

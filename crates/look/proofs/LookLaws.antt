@@ -79,13 +79,12 @@ by_end false cells end work inst work' z = (z, refl)
 -- the search of a look that is not refused has come to k
 pub record Sought (p : Plan) (start count : ℕ) (work inst : List ℤ) (end k : ℕ) (work₁ : List ℤ) : Type 0 where
   pub codes : List ℕ
-  pub shape : List ℕ
   pub cells : ℕ
   pub coded : Coded p cells codes
   pub room : cells ≤ length inst
   pub from : start ≤ p.candidates
   pub to : end ≡ min (start + count) p.candidates
-  pub search : Searched (source_of p) p.ends codes (span_of p cells start end) work k shape work₁
+  pub search : Searched (source_of p) p.ends codes (span_of p cells start end) work k work₁
 
 module _ {p : Plan} {start count : ℕ} {work inst : List ℤ} {end k : ℕ} {work₁ : List ℤ} (S : Sought p start count work inst end k work₁) where
   module _ (F : File) (P : PlanOf F p) (whole : work_size ≤ length work) where

@@ -22,14 +22,13 @@ use Rattle.meaning.proofs.Elements.{map_same}
 use Rattle.meaning.proofs.Seeks.{sought-one}
 use Rattle.language.specs.Legal.{Legal}
 use Rattle.language.proofs.LegalAccepted.{legal-well_formed}
-use Rattle.catalog.specs.Arrays.{FirstKept}
-use Rattle.catalog.specs.FileIn.{Source, with_flags, FileIn, TablesCounted, goal_of}
+use Rattle.catalog.specs.FileIn.{Source, FileIn, TablesCounted, goal_of}
 use Rattle.catalog.specs.declared.outline.Outline.{Outline}
 use Rattle.catalog.specs.declared.plan.Goal.{Goal}
-use Rattle.catalog.proofs.FileLaws.{file-kept, column-kept}
 use Rattle.store.specs.Layout.{area}
 use Rattle.store.proofs.RowLaws.{cell-of-rows, only_same, only-more, only_wider}
 use Rattle.views.proofs.Marking.{never}
+use Rattle.cases.specs.declared.needs.Needs.{Needs}
 use Rattle.cases.specs.Needs.{GoalIn, Covers, NeedsOf}
 use Rattle.cases.specs.Judgement.{Memory, memory_from, Ready, ViewIn, OnlyViews, IsCase}
 use Rattle.cases.proofs.Preparing.{counts-are, table_stays, count-stays}
@@ -92,17 +91,17 @@ moved_at {F} G D K M A = record {
 
 -- ---- a candidate is tested
 
--- the flags of the file's own goal
-pub setting : {F : File} {source : Source} {shape' : List ℕ} {ends : List ℤ} {g : Goal} → FileIn F source ends → goal_of g ≡ F.goal
-    → NeedsOf source g shape' → Setting F (with_flags source shape') ends g
-setting {F} {shape' = shape'} M e N = record {
-  file = file-kept M N.more.first;
+-- what the file's own goal depends on
+pub setting : {F : File} {source : Source} {needs : Needs} {ends : List ℤ} {g : Goal} → FileIn F source ends → goal_of g ≡ F.goal
+    → NeedsOf source g needs → Setting F source ends needs g
+setting {F} {needs = needs} M e N = record {
+  file = M;
   goal = e;
-  covers = subst (λ x. GoalIn F x → Covers F x shape') e (λ h. N.covers M h) M.legal.goal;
+  covers = subst (λ x. GoalIn F x → Covers F x needs) e (λ h. N.covers M h) M.legal.goal;
 }
 
-pub ready : {F : File} {source : Source} {ends : List ℤ} {g : Goal} {memory : Memory} {k : ℕ} → Setting F source ends g → At F memory k
-    → Ready F F.goal (database F k) source memory
+pub ready : {F : File} {source : Source} {ends : List ℤ} {needs : Needs} {g : Goal} {memory : Memory} {k : ℕ} → Setting F source ends needs g → At F memory k
+    → Ready F F.goal (database F k) needs memory
 ready {F} {memory = memory} {k = k} P A = record {
   covers = P.covers;
   shaped = (every-database F (legal-well_formed F P.file.legal)).shaped k;
@@ -112,14 +111,14 @@ ready {F} {memory = memory} {k = k} P A = record {
   signs-size = A.signs-size;
 }
 
-pub judged : {source : Source} {g : Goal} {k : ℕ} {memory memory' : Memory} {b : Bool} → IsCase source g memory b memory'
-    → (F : File) {ends : List ℤ} → Setting F source ends g → At F memory k → b ≡ is_case_at F k
+pub judged : {source : Source} {needs : Needs} {g : Goal} {k : ℕ} {memory memory' : Memory} {b : Bool} → IsCase source needs g memory b memory'
+    → (F : File) {ends : List ℤ} → Setting F source ends needs g → At F memory k → b ≡ is_case_at F k
 unfolding is_case_at
-judged {source} {k = k} {memory} {b = b} J F P A =
-    subst (λ x. Ready F x (database F k) source memory → b ≡ is_case F x (database F k)) P.goal (J.case P.file) (ready P A)
+judged {needs = needs} {k = k} {memory} {b = b} J F P A =
+    subst (λ x. Ready F x (database F k) needs memory → b ≡ is_case F x (database F k)) P.goal (J.case P.file) (ready P A)
 
-module _ {source : Source} {s : Span} {k : ℕ} {memory memory' : Memory} {b : Bool} (J : IsCase source s.goal memory b memory') where
-  pub tests-case : k < 18446744073709551615 → b ≡ true → Tested source s k memory k memory'
+module _ {source : Source} {needs : Needs} {s : Span} {k : ℕ} {memory memory' : Memory} {b : Bool} (J : IsCase source needs s.goal memory b memory') where
+  pub tests-case : k < 18446744073709551615 → b ≡ true → Tested source needs s k memory k memory'
   tests-case l e = record {
     kept = J.kept;
     bound = omega arith;
@@ -131,7 +130,7 @@ module _ {source : Source} {s : Span} {k : ℕ} {memory memory' : Memory} {b : B
     };
   }
 
-  pub tests-none : k < 18446744073709551615 → b ≡ false → Tested source s k memory (k + 1) memory'
+  pub tests-none : k < 18446744073709551615 → b ≡ false → Tested source needs s k memory (k + 1) memory'
   tests-none l e = record {
     kept = J.kept;
     bound = omega arith;
@@ -146,19 +145,19 @@ module _ {source : Source} {s : Span} {k : ℕ} {memory memory' : Memory} {b : B
 -- ---- the loop
 
 -- nothing from the start on and before k is a case, and the cells of candidate k stand in the work area
-pub record Scanned (source : Source) (ends : List ℤ) (codes : List ℕ) (s : Span) (memory : Memory) (k : ℕ) (memory' : Memory) : Type 0 where
+pub record Scanned (source : Source) (ends : List ℤ) (codes : List ℕ) (needs : Needs) (s : Span) (memory : Memory) (k : ℕ) (memory' : Memory) : Type 0 where
   pub from : s.start ≤ k
   pub only : OnlySearched source codes s memory.work memory'.work
   pub counts-size : length memory'.counts ≡ length memory.counts
   pub signs-size : length memory'.signs ≡ length memory.signs
   pub counts : (i : ℕ) → (ViewIn source.outline i → ⊥) → get_or memory'.counts i 0 ≡ get_or memory.counts i 0
   pub signs : (i : ℕ) → (ViewIn source.outline i → ⊥) → get_or memory'.signs i 0 ≡ get_or memory.signs i 0
-  pub here : (F : File) → Setting F source ends s.goal → Digits F (places_of source ends codes s) → At F memory s.start → At F memory' k
-  pub none : (F : File) → Setting F source ends s.goal → Digits F (places_of source ends codes s) → At F memory s.start
+  pub here : (F : File) → Setting F source ends needs s.goal → Digits F (places_of source ends codes s) → At F memory s.start → At F memory' k
+  pub none : (F : File) → Setting F source ends needs s.goal → Digits F (places_of source ends codes s) → At F memory s.start
       → (j : ℕ) → s.start ≤ j → j < k → is_case_at F j ≡ false
 
-module _ {source : Source} {ends : List ℤ} {codes : List ℕ} {s : Span} {memory : Memory} where
-  pub scanned-none : Scanned source ends codes s memory s.start memory
+module _ {source : Source} {ends : List ℤ} {codes : List ℕ} {needs : Needs} {s : Span} {memory : Memory} where
+  pub scanned-none : Scanned source ends codes needs s memory s.start memory
   scanned-none = record {
     from = omega arith;
     only = only_same memory.work;
@@ -170,7 +169,7 @@ module _ {source : Source} {ends : List ℤ} {codes : List ℕ} {s : Span} {memo
     none = λ F P D A j a b. absurd (omega arith);
   }
 
-  module _ {k r : ℕ} {memory₁ memory₂ : Memory} (S : Scanned source ends codes s memory k memory₁) (T : Tested source s k memory₁ r memory₂) where
+  module _ {k r : ℕ} {memory₁ memory₂ : Memory} (S : Scanned source ends codes needs s memory k memory₁) (T : Tested source needs s k memory₁ r memory₂) where
     -- a test changes views
     after_test : OnlySearched source codes s memory.work memory₂.work
     after_test = only-more S.only (only_wider (λ t v. inr v) T.kept.cells)
@@ -182,7 +181,7 @@ module _ {source : Source} {ends : List ℤ} {codes : List ℕ} {s : Span} {memo
     after-signs i h = T.kept.signs i h ∙ S.signs i h
 
     pub scanned-more : (r ≡ k → ⊥) → {work₃ : List ℤ} → Moved (places_of source ends codes s) k r memory₂.work work₃
-        → Scanned source ends codes s memory r (memory_from memory₂.counts memory₂.signs work₃)
+        → Scanned source ends codes needs s memory r (memory_from memory₂.counts memory₂.signs work₃)
     scanned-more d M = record {
       from = omega (arith, S.from, T.follows);
       only = only-more after_test (only_wider (λ t v. inl v) M.only);
@@ -198,7 +197,7 @@ module _ {source : Source} {ends : List ℤ} {codes : List ℕ} {s : Span} {memo
           (λ c. c));
     }
 
-    pub scanned-found : k < s.end → r ≡ k → Scans source ends codes s memory k memory₂
+    pub scanned-found : k < s.end → r ≡ k → Scans source ends codes needs s memory k memory₂
     scanned-found l e = record {
       only = after_test;
       counts = after-counts;
@@ -216,7 +215,7 @@ module _ {source : Source} {ends : List ℤ} {codes : List ℕ} {s : Span} {memo
           };
     }
 
-  pub scanned-all : {k : ℕ} {memory₁ : Memory} → Scanned source ends codes s memory k memory₁ → s.end ≤ k → Scans source ends codes s memory s.end memory₁
+  pub scanned-all : {k : ℕ} {memory₁ : Memory} → Scanned source ends codes needs s memory k memory₁ → s.end ≤ k → Scans source ends codes needs s memory s.end memory₁
   scanned-all {k} S l = record {
     only = S.only;
     counts = S.counts;
@@ -234,21 +233,11 @@ module _ {source : Source} {ends : List ℤ} {codes : List ℕ} {s : Span} {memo
 
 -- ---- the search
 
--- the flags are no part of what tells the cells
-pub digits-kept : {F : File} {p : CellPlaces} {shape' : List ℕ} → FirstKept 6 p.shape shape' → Digits F p → Digits F (places_from shape' p.ends p.codes p.cells)
-digits-kept {p = p} k D = record {
-  legal = D.legal;
-  codes-are = D.codes-are;
-  columns = map_same _ _ (all_map (λ x h. column-kept p.ends k (omega arith) (x / 32) (x % 4)) (codes-tables D.legal)) ∙ D.columns;
-  number = D.number;
-}
-
-pub searches : {source : Source} {shape' : List ℕ} {ends : List ℤ} {codes : List ℕ} {s : Span} {work work₁ : List ℤ} {counts : List ℕ} {r : ℕ} {memory₂ : Memory}
+pub searches : {source : Source} {needs : Needs} {ends : List ℤ} {codes : List ℕ} {s : Span} {work work₁ : List ℤ} {counts : List ℕ} {r : ℕ} {memory₂ : Memory}
     → TablesCounted source.shape source.outline.tables (replicate 16 0) counts → CandidatePut (places_of source ends codes s) s.start work work₁
-    → NeedsOf source s.goal shape' → Scans (with_flags source shape') ends codes s (memory_from counts (replicate 16 0) work₁) r memory₂
-    → Searched source ends codes s work r shape' memory₂.work
+    → NeedsOf source s.goal needs → Scans source ends codes needs s (memory_from counts (replicate 16 0) work₁) r memory₂
+    → Searched source ends codes s work r memory₂.work
 searches C P N S = record {
   only = only-more (only_wider (λ t v. inl v) P.only) S.only;
-  flags = N.more;
-  found = λ F M e D whole h. S.found F (setting M e N) (digits-kept N.more.first D) (placed_at M D C whole P) h;
+  found = λ F M e D whole h. S.found F (setting M e N) D (placed_at M D C whole P) h;
 }

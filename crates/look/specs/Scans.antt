@@ -7,7 +7,8 @@ use Rattle.language.specs.Legal.{table_at}
 use Rattle.catalog.specs.FileIn.{Source, FileIn, goal_of}
 use Rattle.catalog.specs.declared.plan.Goal.{Goal}
 use Rattle.store.specs.Layout.{area, OnlyCells}
-use Rattle.cases.specs.Needs.{Covers, More}
+use Rattle.cases.specs.declared.needs.Needs.{Needs}
+use Rattle.cases.specs.Needs.{Covers}
 use Rattle.cases.specs.Judgement.{Memory, ViewIn, OnlyViews}
 use Rattle.look.specs.Cells.{codes_of, cells_in, CodedTable}
 use Rattle.look.specs.Moves.{CellPlaces, places_from, Digits}
@@ -25,10 +26,10 @@ abbrev pub places_of : Source → List ℤ → List ℕ → Span → CellPlaces
 places_of source ends codes s = places_from source.shape ends codes s.cells
 
 -- what the search of a file rests on
-pub record Setting (F : File) (source : Source) (ends : List ℤ) (g : Goal) : Type 0 where
+pub record Setting (F : File) (source : Source) (ends : List ℤ) (needs : Needs) (g : Goal) : Type 0 where
   pub file : FileIn F source ends
   pub goal : goal_of g ≡ F.goal
-  pub covers : Covers F F.goal source.shape
+  pub covers : Covers F F.goal needs
 
 -- the numbers of the tables' rows and the cells of candidate k stand where they should
 pub record At (F : File) (memory : Memory) (k : ℕ) : Type 0 where
@@ -45,26 +46,25 @@ abbrev pub OnlySearched : Source → List ℕ → Span → List ℤ → List ℤ
 OnlySearched source codes s = OnlyCells (λ r. CodedTable codes s.cells r ⊎ ViewIn source.outline r)
 
 -- of candidate k in the search of a span
-pub record Tested (source : Source) (s : Span) (k : ℕ) (memory : Memory) (r : ℕ) (memory' : Memory) : Type 0 where
+pub record Tested (source : Source) (needs : Needs) (s : Span) (k : ℕ) (memory : Memory) (r : ℕ) (memory' : Memory) : Type 0 where
   pub kept : OnlyViews source.outline memory memory'
   pub bound : r ≤ 18446744073709551615
   pub follows : k ≤ r
-  pub passed : (F : File) {ends : List ℤ} → Setting F source ends s.goal → At F memory k → Passed (is_case_at F) s.start k r
+  pub passed : (F : File) {ends : List ℤ} → Setting F source ends needs s.goal → At F memory k → Passed (is_case_at F) s.start k r
 
 -- r is the first case of the span or its end, and the cells of a case stand in the work area
 pub record FirstFound (F : File) (s : Span) (r : ℕ) (work : List ℤ) : Type 0 where
   pub first : r ≡ seek (is_case_at F) s.start (s.end - s.start)
   pub cells : r < s.end → cells_in work (codes_of F) ≡ cells_of F r
 
-pub record Scans (source : Source) (ends : List ℤ) (codes : List ℕ) (s : Span) (memory : Memory) (r : ℕ) (memory' : Memory) : Type 0 where
+pub record Scans (source : Source) (ends : List ℤ) (codes : List ℕ) (needs : Needs) (s : Span) (memory : Memory) (r : ℕ) (memory' : Memory) : Type 0 where
   pub only : OnlySearched source codes s memory.work memory'.work
   pub counts : (i : ℕ) → (ViewIn source.outline i → ⊥) → get_or memory'.counts i 0 ≡ get_or memory.counts i 0
   pub signs : (i : ℕ) → (ViewIn source.outline i → ⊥) → get_or memory'.signs i 0 ≡ get_or memory.signs i 0
-  pub found : (F : File) → Setting F source ends s.goal → Digits F (places_of source ends codes s) → At F memory s.start → s.start ≤ s.end
+  pub found : (F : File) → Setting F source ends needs s.goal → Digits F (places_of source ends codes s) → At F memory s.start → s.start ≤ s.end
       → FirstFound F s r memory'.work
 
-pub record Searched (source : Source) (ends : List ℤ) (codes : List ℕ) (s : Span) (work : List ℤ) (r : ℕ) (shape' : List ℕ) (work' : List ℤ) : Type 0 where
+pub record Searched (source : Source) (ends : List ℤ) (codes : List ℕ) (s : Span) (work : List ℤ) (r : ℕ) (work' : List ℤ) : Type 0 where
   pub only : OnlySearched source codes s work work'
-  pub flags : More source.shape shape'
   pub found : (F : File) → FileIn F source ends → goal_of s.goal ≡ F.goal → Digits F (places_of source ends codes s) → area ≤ length work
       → s.start ≤ s.end → FirstFound F s r work'

@@ -39,7 +39,7 @@ fn looked(p: Plan, start: u64, count: u64, work: &mut [i32], instance: &mut [i16
     ensures { Looked p start count work.old instance.old result work.new instance.new }
 {
     let bytes = p.bytes;
-    let mut shape = p.shape;
+    let shape = p.shape;
     let ends = p.ends;
     let outline = p.outline;
     let goal = p.goal;
@@ -60,7 +60,7 @@ fn looked(p: Plan, start: u64, count: u64, work: &mut [i32], instance: &mut [i16
         start: start,
         end: end,
     };
-    let k = scan::search(&bytes, &mut shape, &ends, &codes, s, work);
+    let k = scan::search(&bytes, &shape, &ends, &codes, s, work);
     if k < end {
         buffers::show(&codes, cells, work, instance);
         buffers::clear(work);

@@ -5,6 +5,7 @@ ghost use Rattle.cases.specs.Judgement.{memory_from};
 ghost use Rattle.look.specs.Scans.{Tested, Scans, Searched};
 
 use super::moves;
+use cases::needs::Needs;
 use cases::{judgement, needs};
 use catalog::outline;
 use catalog::outline::Outline;
@@ -24,6 +25,7 @@ pub struct Span {
 fn tested(
     bytes: &[u8],
     shape: &[u8],
+    needs: &Needs,
     s: Span,
     k: u64,
     counts: &mut [u8],
@@ -31,11 +33,11 @@ fn tested(
     work: &mut [i32],
 ) -> u64
     requires { k < 18446744073709551615 }
-    ensures { Tested (source_from bytes.now shape.now s.outline) s k
+    ensures { Tested (source_from bytes.now shape.now s.outline) needs.now s k
         (memory_from counts.old signs.old work.old) result
         (memory_from counts.new signs.new work.new) }
 {
-    if judgement::is_case(bytes, shape, s.outline, s.goal, counts, signs, work) {
+    if judgement::is_case(bytes, shape, s.outline, needs, s.goal, counts, signs, work) {
         return k;
     }
     k + 1
@@ -47,18 +49,19 @@ fn scan(
     shape: &[u8],
     ends: &[i32],
     codes: &[u16],
+    needs: &Needs,
     s: Span,
     counts: &mut [u8],
     signs: &mut [u8],
     work: &mut [i32],
 ) -> u64
-    ensures { Scans (source_from bytes.now shape.now s.outline) ends.now codes.now s
+    ensures { Scans (source_from bytes.now shape.now s.outline) ends.now codes.now needs.now s
         (memory_from counts.old signs.old work.old) result
         (memory_from counts.new signs.new work.new) }
 {
     let mut k = s.start;
     while k < s.end {
-        let next = tested(bytes, shape, s, k, counts, signs, work);
+        let next = tested(bytes, shape, needs, s, k, counts, signs, work);
         if next == k {
             return k;
         }
@@ -68,23 +71,33 @@ fn scan(
     s.end
 }
 
-// The same, where nothing is set up yet; the flags of `shape` are set.
+// The same, where nothing is set up yet.
 // Refused: the cells of candidate 0 for any start; signs for 15 relations.
 pub(crate) fn search(
     bytes: &[u8],
-    shape: &mut [u8],
+    shape: &[u8],
     ends: &[i32],
     codes: &[u16],
     s: Span,
     work: &mut [i32],
 ) -> u64
-    ensures { Searched (source_from bytes.now shape.old s.outline) ends.now codes.now s
-        work.old result shape.new work.new }
+    ensures { Searched (source_from bytes.now shape.now s.outline) ends.now codes.now s
+        work.old result work.new }
 {
     let mut counts = [0u8; 16];
     outline::count_tables(shape, s.outline.tables, &mut counts);
     moves::put_candidate(shape, ends, codes, s.cells, s.start, work);
-    needs::needs_of(bytes, shape, s.outline, s.goal);
+    let needs = needs::needs_of(bytes, shape, s.outline, s.goal);
     let mut signs = [0u8; 16];
-    scan(bytes, shape, ends, codes, s, &mut counts, &mut signs, work)
+    scan(
+        bytes,
+        shape,
+        ends,
+        codes,
+        &needs,
+        s,
+        &mut counts,
+        &mut signs,
+        work,
+    )
 }

@@ -1,15 +1,13 @@
--- Decimal figures, and room for every sentence. Assumes nothing.
-use mathlib.Core.Path.{◌≡◌, refl, sym, ap, subst, ◌∙◌}
+-- Decimal figures, one behind the others. Assumes nothing.
+use mathlib.Core.Path.{◌≡◌, refl, ap, ◌∙◌}
 use mathlib.Core.List.{List, [], ◌∷◌, ◌++◌}
 use Prim.Native.Nat.{ℕ, zero, suc, ◌+◌, ◌/◌, ◌%◌, ◌^◌, ◌≤◌, ◌<◌}
 use native.Mathlib.Omega.{arith}
 use borrow.Author.Tests.{lt-ltb, le-ltb}
 use lib.Dec.{ltb}
-use lib.ListN.{length, set, length-append}
+use lib.ListN.{length, length-append}
 use Rattle.value.proofs.Decides.{by-test}
 use Rattle.sentences.specs.Sentence.{figures_of, figures}
-use Rattle.sentences.specs.Pieces.{Over}
-use Rattle.sentences.proofs.PutLaws.{over-one, over-then, over-length}
 
 -- so many figures at most
 pub few-figures : (k n : ℕ) → length (figures_of k n) ≤ k
@@ -35,23 +33,8 @@ pub more-figures : (n : ℕ) → 10 ≤ n → n < 100000 → figures n ≡ figur
 unfolding figures_of
 more-figures n h l = rw (le-ltb n 10 h) (ap (λ (s : List ℕ). s ++ (n % 10 + 48) ∷ []) (enough 3 (n / 10) (omega arith)))
 
--- ---- figures put into a buffer
-
 pub one-long : (n : ℕ) → n < 10 → length (figures n) ≡ 1
 one-long n h = ap length (one-figure n h)
 
 pub more-long : (n : ℕ) → 10 ≤ n → n < 100000 → length (figures n) ≡ length (figures (n / 10)) + 1
 more-long n h l = ap length (more-figures n h l) ∙ length-append (figures (n / 10)) ((n % 10 + 48) ∷ [])
-
-module _ {n at : ℕ} {out : List ℕ} where
-  pub figure-put : n < 10 → Over (figures n) at out (at + 1) (set out at (n + 48))
-  figure-put h = subst (λ (bs : List ℕ). Over bs at out (at + 1) (set out at (n + 48))) (sym (one-figure n h)) (over-one (n + 48) at out)
-
-  pub figures-put : {r : ℕ} {out₁ : List ℕ} → 10 ≤ n → n < 100000 → Over (figures (n / 10)) at out r out₁
-      → Over (figures n) at out (r + 1) (set out₁ r (n % 10 + 48))
-  figures-put {r} {out₁} h l o =
-      subst (λ (bs : List ℕ). Over bs at out (r + 1) (set out₁ r (n % 10 + 48))) (sym (more-figures n h l)) (over-then o (over-one (n % 10 + 48) r out₁))
-
-  -- the last figure has room behind the others
-  pub figures-last : {r : ℕ} {out₁ : List ℕ} → 10 ≤ n → n < 100000 → Over (figures (n / 10)) at out r out₁ → at + length (figures n) ≤ length out → r < length out₁
-  figures-last h l o room = omega (arith, more-long n h l, o.next, over-length o)

@@ -4,7 +4,7 @@ pub mod FiguresBack
 pub mod SentenceBack
 pub mod Examples
 -- what is put into buffers
-pub mod PutLaws
+pub mod LineLaws
 pub mod PieceLaws
 pub mod FigureLaws
 pub mod SaidLaws

@@ -1,24 +1,28 @@
 -- A language's pieces, each closed by LF, one after the other: line k of that text is piece k. Assumes nothing.
-use mathlib.Core.Path.{◌≡◌, refl, sym, ap, ◌∙◌}
-use mathlib.Core.Bool.{Bool, true, false, not}
+use mathlib.Core.Path.{◌≡◌, refl, ap, ◌∙◌}
+use mathlib.Core.Bool.{Bool, true, not}
 use mathlib.Core.List.{List, [], ◌∷◌, ◌++◌}
-use Prim.Native.Nat.{ℕ, zero, suc, ◌+◌, ◌≤◌, ◌<◌}
+use Prim.Native.Nat.{ℕ, zero, suc, ◌+◌, ◌<◌}
 use native.Mathlib.Omega.{arith}
-use borrow.Author.Tests.{not-true, eq-eqb, ne_eqb}
+use borrow.Author.Tests.{not-true}
 use lib.Dec.{eqb}
 use lib.ListN.{length, get_or}
 use lib.Seq.{get_or-append-add}
 use Rattle.value.specs.Bag.{All}
-use Rattle.value.proofs.Decides.{by-test}
 use Rattle.value.proofs.Values.{all_map}
 use Rattle.meaning.specs.Lists.{all}
 use Rattle.meaning.proofs.Elements.{all-test}
 use Rattle.sentences.specs.Words.{Language}
 use Rattle.sentences.specs.English.{english}
 use Rattle.sentences.specs.French.{french}
-use Rattle.sentences.specs.SheetOf.{language_of, in_lines, first_line, past_line}
-use Rattle.sentences.specs.Pieces.{pieces, past_lines, texts_of, Over}
-use Rattle.sentences.proofs.PutLaws.{past-nothing, over-same}
+use Rattle.sentences.specs.SheetOf.{in_lines, first_line, past_line}
+use Rattle.sentences.specs.Pieces.{pieces, past_lines}
+use Rattle.sentences.specs.Languages.{language_in, texts_in, first_in}
+use Rattle.sentences.specs.declared.Language.{Language as Tongue}
+use Rattle.sentences.specs.declared.Language.TheVariants.{English, French}
+use Rattle.sentences.specs.declared.Place.{Place}
+use Rattle.sentences.specs.declared.Place.TheVariants.{Alone, There}
+use Rattle.sentences.proofs.LineLaws.{past-nothing}
 
 -- ---- pieces in which no LF stands
 
@@ -42,13 +46,6 @@ piece-line All.nil k = ap first_line (past-nothing k)
 piece-line (All.cons {xs = ps} h hs) zero = (line_of (in_lines ps) h).0
 piece-line (All.cons {xs = ps} h hs) (suc k) = ap (λ (l : List ℕ). first_line (past_lines k l)) (line_of (in_lines ps) h).1 ∙ piece-line hs k
 
--- the language that a number stands for
-pub english-when : (code : ℕ) → code ≡ 0 → language_of code ≡ english
-english-when code e = rw (eq-eqb code 0 e) refl
-
-pub french-when : (code : ℕ) → (code ≡ 0 → ⊥) → language_of code ≡ french
-french-when code e = rw (ne_eqb code 0 e) refl
-
 -- one computed test of each table
 tested : (w : Language) → all (all is_other) (pieces w) ≡ true → All Unbroken (pieces w)
 tested w e = all_map (λ p t. all-test is_other p t) (all-test (all is_other) (pieces w) e)
@@ -59,16 +56,13 @@ english-unbroken = tested english refl
 pub french-unbroken : All Unbroken (pieces french)
 french-unbroken = tested french refl
 
--- line k of the table, and piece k of the language
-module _ (w v : Language) (t : All Unbroken (pieces w)) (e : v ≡ w) (k : ℕ) where
-  same-piece : get_or (pieces v) k [] ≡ first_line (past_lines k (in_lines (pieces w)))
-  same-piece = ap (λ (x : Language). get_or (pieces x) k []) e ∙ sym (piece-line t k)
+unbroken : (t : Tongue) → All Unbroken (pieces (language_in t))
+unbroken English = english-unbroken
+unbroken French = french-unbroken
 
-  pub piece-room : (at n : ℕ) → at + length (get_or (pieces v) k []) ≤ n → at + length (first_line (past_lines k (in_lines (pieces w)))) ≤ n
-  piece-room at n h = omega (arith, ap length same-piece)
-
-  pub piece-over : {at r : ℕ} {out out' : List ℕ} → Over (first_line (past_lines k (in_lines (pieces w)))) at out r out' → Over (get_or (pieces v) k []) at out r out'
-  piece-over = over-same same-piece
+-- line k of the text, and piece k of the language
+pub piece-at : (t : Tongue) (k : ℕ) → first_line (past_lines k (in_lines (pieces (language_in t)))) ≡ get_or (pieces (language_in t)) k []
+piece-at t k = piece-line (unbroken t) k
 
 -- ---- where a language's sentences stand among its pieces
 
@@ -78,18 +72,18 @@ get_d-left (x ∷ xs) ys zero h = refl
 get_d-left (x ∷ xs) ys (suc n) h = get_d-left xs ys n (omega arith)
 
 -- both lists of each language have 19 entries
-pub entries : (code : ℕ) (named : Bool) → length (texts_of named (language_of code)) ≡ 19
-entries code true = by-test (eqb code 0) (λ t. rw t refl) (λ t. rw t refl)
-entries code false = by-test (eqb code 0) (λ t. rw t refl) (λ t. rw t refl)
+pub entries : (t : Tongue) (p : Place) → length (texts_in p (language_in t)) ≡ 19
+entries English Alone = refl
+entries English There = refl
+entries French Alone = refl
+entries French There = refl
 
-pub alone-piece : (code n : ℕ) → n < 19 → get_or (pieces (language_of code)) (3 + n) [] ≡ get_or (texts_of false (language_of code)) n []
-alone-piece code n h =
-    let w = language_of code in
+pub own-piece : (t : Tongue) (p : Place) (n : ℕ) → n < 19 → get_or (pieces (language_in t)) (first_in p + n) [] ≡ get_or (texts_in p (language_in t)) n []
+own-piece t Alone n h =
+    let w = language_in t in
     let e : 3 + n ≡ suc (suc (suc n)) = omega arith in
-    rw e (get_d-left w.alone w.there n (omega (arith, entries code false)))
-
-pub there-piece : (code n : ℕ) → get_or (pieces (language_of code)) (22 + n) [] ≡ get_or (texts_of true (language_of code)) n []
-there-piece code n =
-    let w = language_of code in
-    let e : 22 + n ≡ suc (suc (suc (length w.alone + n))) = omega (arith, entries code false) in
+    rw e (get_d-left w.alone w.there n (omega (arith, entries t Alone)))
+own-piece t There n h =
+    let w = language_in t in
+    let e : 22 + n ≡ suc (suc (suc (length w.alone + n))) = omega (arith, entries t Alone) in
     rw e (get_or-append-add w.alone w.there n [])

@@ -1,10 +1,10 @@
 -- Room for every sentence, and for both. Assumes nothing.
 use mathlib.Core.Path.{◌≡◌, refl, sym, ap, subst}
-use mathlib.Core.Bool.{Bool, true, false, ◌&&◌, cond}
+use mathlib.Core.Bool.{Bool, true, false, ◌&&◌}
 use mathlib.Core.List.{List, [], ◌∷◌, ◌++◌, append_assoc}
 use Prim.Native.Nat.{ℕ, ◌≤◌, ◌<◌}
 use native.Mathlib.Omega.{arith}
-use borrow.Author.Tests.{leb-true, lt-ltb, le-ltb, eqb-true, eqb-false}
+use borrow.Author.Tests.{leb-true, le-ltb, eqb-true, eqb-false}
 use lib.Dec.{ltb, leb, eqb}
 use lib.ListN.{length, get_or, take, length-append}
 use Rattle.value.proofs.Decides.{by-test, and_parts}
@@ -15,10 +15,13 @@ use Rattle.sentences.specs.Words.{Language}
 use Rattle.sentences.specs.English.{english}
 use Rattle.sentences.specs.French.{french}
 use Rattle.sentences.specs.Sentence.{figures, said, sentence}
-use Rattle.sentences.specs.SheetOf.{language_of, sentence_in, in_lines, both_sentences}
-use Rattle.sentences.specs.Pieces.{texts_of, Over}
+use Rattle.sentences.specs.SheetOf.{sentence_in, in_lines, both_sentences}
+use Rattle.sentences.specs.Languages.{language_in, number_in, texts_in}
+use Rattle.sentences.specs.declared.Language.{Language as Tongue}
+use Rattle.sentences.specs.declared.Language.TheVariants.{English, French}
+use Rattle.sentences.specs.declared.Place.{Place}
+use Rattle.sentences.specs.declared.Place.TheVariants.{Alone, There}
 use Rattle.sentences.specs.Answers.{Put}
-use Rattle.sentences.proofs.PutLaws.{over-then, over-same, over-length, over-taken, whole-none}
 use Rattle.sentences.proofs.PieceLaws.{entries}
 use Rattle.sentences.proofs.FigureLaws.{few-figures}
 use Rattle.sentences.proofs.SaidLaws.{known_small, said-known, said-other, sentence-alone, sentence-there}
@@ -42,13 +45,13 @@ french-short : short french ≡ true
 unfolding short
 french-short = refl
 
-either-short : (b : Bool) → short (cond b english french) ≡ true
-either-short true = english-short
-either-short false = french-short
+both-short : (t : Tongue) → short (language_in t) ≡ true
+both-short English = english-short
+both-short French = french-short
 
 record Lengths (w : Language) : Type 0 where
-  texts : (named : Bool) → all (within 420) (texts_of named w) ≡ true
-  first : (named : Bool) → length (get_or (texts_of named w) 0 []) ≤ 60
+  texts : (p : Place) → all (within 420) (texts_in p w) ≡ true
+  first : (p : Place) → length (get_or (texts_in p w) 0 []) ≤ 60
   line : length w.line ≤ 10
   colon : length w.colon ≤ 10
   close : length w.close ≤ 60
@@ -63,101 +66,93 @@ lengths w e =
     let (f, e5) = and_parts (within 10 w.line) _ e4 in
     let (g, h) = and_parts (within 10 w.colon) _ e5 in
     record {
-      texts = λ named. by-named (λ x. all (within 420) (texts_of x w) ≡ true) named b a;
-      first = λ named. by-named (λ x. length (get_or (texts_of x w) 0 []) ≤ 60) named (leb-true _ _ d) (leb-true _ _ c);
+      texts = λ p. at-place (λ x. all (within 420) (texts_in x w) ≡ true) p a b;
+      first = λ p. at-place (λ x. length (get_or (texts_in x w) 0 []) ≤ 60) p (leb-true _ _ c) (leb-true _ _ d);
       line = leb-true _ _ f;
       colon = leb-true _ _ g;
       close = leb-true _ _ h;
     }
   where
-    by-named : (P : Bool → Type 0) (x : Bool) → P true → P false → P x
-    by-named P true p q = p
-    by-named P false p q = q
+    at-place : (P : Place → Type 0) (x : Place) → P Alone → P There → P x
+    at-place P Alone p q = p
+    at-place P There p q = q
 
 -- ---- every sentence
 
-module _ (code n : ℕ) where
-  lengths-of : Lengths (language_of code)
-  lengths-of = lengths (language_of code) (either-short (eqb code 0))
+module _ (t : Tongue) (n : ℕ) where
+  lengths-of : Lengths (language_in t)
+  lengths-of = lengths (language_in t) (both-short t)
 
-  said-room : (named : Bool) → length (said (language_of code) (texts_of named (language_of code)) n) ≤ 420
-  said-room named =
+  said-room : (p : Place) → length (said (language_in t) (texts_in p (language_in t)) n) ≤ 420
+  said-room p =
       let L = lengths-of in
-      let own = texts_of named (language_of code) in
+      let own = texts_in p (language_in t) in
       by-test (ltb 0 n && ltb n 19)
-      (λ t.
-      let k : n < length own = omega (arith, known_small code named n t, entries code named) in
-      let m : length (get_or own n []) ≤ 420 = leb-true _ _ (all-at (all-test (within 420) own (L.texts named)) [] n k) in
-      omega (arith, ap length (said-known code named n t)))
-      (λ t.
+      (λ e.
+      let k : n < length own = omega (arith, known_small t p n e, entries t p) in
+      let m : length (get_or own n []) ≤ 420 = leb-true _ _ (all-at (all-test (within 420) own (L.texts p)) [] n k) in
+      omega (arith, ap length (said-known t p n e)))
+      (λ e.
       let first = get_or own 0 [] in
-      let close = (language_of code).close in
-      omega (arith, ap length (said-other code named n t), length-append (first ++ figures n) close, length-append first (figures n), few-figures 5 n, L.first named, L.close))
+      let close = (language_in t).close in
+      omega (arith, ap length (said-other t p n e), length-append (first ++ figures n) close, length-append first (figures n), few-figures 5 n, L.first p, L.close))
 
-  pub sentence-room : (l : ℕ) → length (sentence (language_of code) n l) ≤ 512
+  pub sentence-room : (l : ℕ) → length (sentence (language_in t) n l) ≤ 512
   sentence-room l =
       let L = lengths-of in
-      let w = language_of code in
+      let w = language_in t in
       by-test (eqb l 0)
-      (λ t. omega (arith, said-room false, ap length (sentence-alone w n l (eqb-true l 0 t))))
-      (λ t.
+      (λ e. omega (arith, said-room Alone, ap length (sentence-alone w n l (eqb-true l 0 e))))
+      (λ e.
       let rest = said w w.there n in
-      let e : length (sentence w n l) ≡ length (w.line ++ figures l ++ w.colon ++ rest) = ap length (sentence-there w n l (eqb-false l 0 t)) in
+      let s : length (sentence w n l) ≡ length (w.line ++ figures l ++ w.colon ++ rest) = ap length (sentence-there w n l (eqb-false l 0 e)) in
       omega (
         arith,
         length-append (w.line ++ figures l ++ w.colon) rest,
         length-append (w.line ++ figures l) w.colon,
         length-append w.line (figures l),
         few-figures 5 l,
-        said-room true,
+        said-room There,
         L.line,
         L.colon,
       ))
 
--- ---- what is put into the lent buffer
+-- ---- a language by its number
 
-pub over-within : {bs : List ℕ} {r : ℕ} {out out' : List ℕ} → Over bs 0 out r out' → length bs ≤ length out → r ≤ length out'
-over-within o h = omega (arith, o.next, over-length o)
-
--- another language than these
-pub put-none : (code n l : ℕ) {out : List ℕ} → 1 < code → Put (sentence_in code n l) out 0 out
+pub sentence-named : (t : Tongue) {code : ℕ} (n l : ℕ) → number_in t ≡ code → sentence_in code n l ≡ sentence (language_in t) n l
 unfolding sentence_in
-put-none code n l {out} h =
-    let t : ltb code 2 ≡ false = le-ltb code 2 (omega arith) in
-    rw t (whole-none out)
+sentence-named English n l e = rw (← e) refl
+sentence-named French n l e = rw (← e) refl
 
-pub put_same : {s t out out' : List ℕ} {r : ℕ} → s ≡ t → Put s out r out' → Put t out r out'
-put_same {s} {t} {out} {out'} {r} e p = subst (λ (x : List ℕ). Put x out r out') e p
-
-pub put_in : (code n l : ℕ) {r s : ℕ} {buffer buffer' out out' : List ℕ} → code ≤ 1 → length buffer ≡ 512 → Over (sentence (language_of code) n l) 0 buffer r buffer'
-    → Put (take r buffer') out s out' → Put (sentence_in code n l) out s out'
+pub sentence-none : (code n l : ℕ) → 1 < code → sentence_in code n l ≡ []
 unfolding sentence_in
-put_in code n l {r} {s} {buffer} {buffer'} {out} {out'} h b o p =
-    let t : ltb code 2 ≡ true = lt-ltb code 2 (omega arith) in
-    rw t (put_same (over-taken o (omega (arith, sentence-room code n l))) p)
+sentence-none code n l h = rw (le-ltb code 2 (omega arith)) refl
+
+-- ---- both sentences
+
+pub both-are : (n l : ℕ) → both_sentences n l ≡ (sentence english n l ++ 10 ∷ []) ++ (sentence french n l ++ 10 ∷ [])
+unfolding both_sentences in_lines
+both-are n l = sym (append_assoc (sentence english n l) (10 ∷ []) (sentence french n l ++ 10 ∷ []))
 
 pub both-room : (n l : ℕ) → length (both_sentences n l) ≤ 1026
 unfolding both_sentences in_lines
 both-room n l =
     omega (
       arith,
-      sentence-room 0 n l,
-      sentence-room 1 n l,
+      sentence-room English n l,
+      sentence-room French n l,
       length-append (sentence english n l) (10 ∷ (sentence french n l ++ 10 ∷ [])),
       length-append (sentence french n l) (10 ∷ []),
     )
 
-module _ (n l : ℕ) {a b : ℕ} {buffer buffer₁ buffer₂ : List ℕ} (z : length buffer ≡ 1026)
-    (e : Over (sentence english n l ++ 10 ∷ []) 0 buffer a buffer₁) (f : Over (sentence french n l ++ 10 ∷ []) a buffer₁ b buffer₂) where
-  both-over : Over (both_sentences n l) 0 buffer b buffer₂
-  unfolding both_sentences in_lines
-  both-over = over-same (sym (append_assoc (sentence english n l) (10 ∷ []) (sentence french n l ++ 10 ∷ []))) (over-then e f)
+-- ---- what stays of a buffer
 
-  pub both-within : b ≤ length buffer₂
-  both-within = over-within both-over (omega (arith, both-room n l))
+-- an empty text
+pub whole-none : (out : List ℕ) → Put [] out 0 out
+whole-none out = let t : ltb (length out) 0 ≡ false = le-ltb (length out) 0 (omega arith) in record { length-is = rw t refl; left = rw t refl }
 
-  pub put_both : {s : ℕ} {out out' : List ℕ} → Put (take b buffer₂) out s out' → Put (both_sentences n l) out s out'
-  put_both p = put_same (over-taken both-over (omega (arith, both-room n l))) p
+pub put_same : {s t out out' : List ℕ} {r : ℕ} → s ≡ t → Put s out r out' → Put t out r out'
+put_same {s} {t} {out} {out'} {r} e p = subst (λ (x : List ℕ). Put x out r out') e p
 
 -- ---- what a caller reads in its buffer
 

@@ -7,3 +7,4 @@ pub mod SheetOf
 pub mod Answers
 -- the pieces as the code has them
 pub mod Pieces
+pub mod Languages

@@ -1,13 +1,16 @@
 // A refusal as a sentence in English or in French.
 #![tactic(auto)]
 
+mod buffer;
 mod words;
 
-ghost use Rattle.std.specs.Prelude.{◌≡◌, ◌&&◌, cond, ◌++◌, ◌∷◌, [], ◌+◌, ◌≤◌, ◌<◌, ltb, length, get_or};
-ghost use Rattle.sentences.specs.Sentence.{figures, said, sentence};
-ghost use Rattle.sentences.specs.SheetOf.{language_of, sentence_in, both_sentences};
-ghost use Rattle.sentences.specs.Pieces.{texts_of, Over};
+ghost use Rattle.std.specs.Prelude.{◌≡◌, ◌+◌, ◌≤◌, ◌<◌, ◌++◌, ◌∷◌, [], ◌&&◌, ltb, length, get_or};
+ghost use Rattle.sentences.specs.Sentence.{said, sentence};
+ghost use Rattle.sentences.specs.SheetOf.{sentence_in, both_sentences};
+ghost use Rattle.sentences.specs.Languages.{Names, language_in, texts_in, first_in};
 ghost use Rattle.sentences.specs.Answers.{Put};
+
+use buffer::Buffer;
 
 // Room for any sentence.
 pub const ROOM: usize = 512;
@@ -30,18 +33,49 @@ const THERE: usize = 22;
 // The last refusal with a sentence of its own.
 const LAST: u8 = 18;
 
-// Decimal figures.
-fn put_figures(n: u16, out: &mut [u8], at: usize) -> usize
-    requires { at + length (figures n) ≤ length out.old }
-    ensures { Over (figures n) at out.old result out.new }
-{
-    if n < 10 {
-        out[at] = (n as u8) + 48;
-        return at + 1;
+// The languages of sentences.
+#[derive(Clone, Copy, PartialEq, Eq)]
+pub enum Language {
+    English,
+    French,
+}
+
+// A number that stands for no language.
+#[derive(Clone, Copy, PartialEq, Eq)]
+pub struct UnknownLanguage;
+
+impl TryFrom<u8> for Language {
+    type Error = UnknownLanguage;
+
+    ghost try_from_gives = { Names };
+
+    // Refused: English for 1; French for 2.
+    fn try_from(number: u8) -> Result<Self, UnknownLanguage> {
+        match number {
+            0 => Ok(Language::English),
+            1 => Ok(Language::French),
+            _ => Err(UnknownLanguage),
+        }
     }
-    let last = put_figures(n / 10, out, at);
-    out[last] = ((n % 10) as u8) + 48;
-    last + 1
+}
+
+// Where a refusal's own words stand: alone, where no line is named, or behind the line.
+#[derive(Clone, Copy, PartialEq, Eq)]
+enum Place {
+    Alone,
+    There,
+}
+
+impl Place {
+    // Where its sentences begin among the pieces.
+    fn first(self) -> usize
+        ensures { result ≡ first_in self }
+    {
+        match self {
+            Place::Alone => ALONE,
+            Place::There => THERE,
+        }
+    }
 }
 
 // Whether a refusal has a sentence of its own.
@@ -51,72 +85,48 @@ fn is_known(number: u8) -> bool
     1 <= number && number <= LAST
 }
 
-// Where the sentences begin among the pieces.
-fn first_text(named: bool) -> usize
-    ensures { result ≡ cond named 22 3 }
+// Entry n of the sentences at a place.
+fn own_words(language: Language, place: Place, n: u8) -> &'static [u8]
+    requires { n < 19 }
+    ensures { result.now ≡ get_or (texts_in place (language_in language)) n [] }
 {
-    if named { THERE } else { ALONE }
-}
-
-// Entry n of the sentences behind a line, or of those without one.
-fn put_text(language: u8, named: bool, n: u8, out: &mut [u8], at: usize) -> usize
-    requires known { n < 19 }
-    requires room { at + length (get_or (texts_of named (language_of language)) n []) ≤ length out.old }
-    ensures { Over (get_or (texts_of named (language_of language)) n []) at out.old result out.new }
-{
-    let first = first_text(named);
-    words::put_piece(language, first + (n as usize), out, at)
+    words::piece(language, place.first() + (n as usize))
 }
 
 // The sentence of a refusal; one that has none of its own is named by its number.
-fn put_said(language: u8, named: bool, number: u8, out: &mut [u8], at: usize) -> usize
-    requires { at + length (said (language_of language) (texts_of named (language_of language)) number) ≤ length out.old }
-    ensures { Over (said (language_of language) (texts_of named (language_of language)) number) at out.old result out.new }
+fn push_said(text: &mut Buffer, language: Language, place: Place, number: u8)
+    requires { length text.old + length (said (language_in language) (texts_in place (language_in language)) number) ≤ 1026 }
+    ensures { text.new ≡ text.old ++ said (language_in language) (texts_in place (language_in language)) number }
 {
     if is_known(number) {
-        return put_text(language, named, number, out, at);
+        return text.extend(own_words(language, place, number));
     }
-    let a = put_text(language, named, 0, out, at);
-    let b = put_figures(number as u16, out, a);
-    words::put_piece(language, CLOSE, out, b)
+    text.extend(own_words(language, place, 0));
+    text.push_figures(number as u16);
+    text.extend(words::piece(language, CLOSE))
 }
 
-fn put_sentence(language: u8, number: u8, line: u16, out: &mut [u8], at: usize) -> usize
-    requires { at + length (sentence (language_of language) number line) ≤ length out.old }
-    ensures { Over (sentence (language_of language) number line) at out.old result out.new }
+#[tactic(auto, unfolding(crate::specs::Sentence::sentence))]
+fn push_sentence(text: &mut Buffer, language: Language, number: u8, line: u16)
+    requires { length text.old + length (sentence (language_in language) number line) ≤ 1026 }
+    ensures { text.new ≡ text.old ++ sentence (language_in language) number line }
 {
     if line == 0 {
-        return put_said(language, false, number, out, at);
+        return push_said(text, language, Place::Alone, number);
     }
-    let a = words::put_piece(language, LINE, out, at);
-    let b = put_figures(line, out, a);
-    let c = words::put_piece(language, COLON, out, b);
-    put_said(language, true, number, out, c)
+    text.extend(words::piece(language, LINE));
+    text.push_figures(line);
+    text.extend(words::piece(language, COLON));
+    push_said(text, language, Place::There, number)
 }
 
 // The same, closed by LF.
-fn put_closed(language: u8, number: u8, line: u16, out: &mut [u8], at: usize) -> usize
-    requires { at + length (sentence (language_of language) number line) < length out.old }
-    ensures { Over (sentence (language_of language) number line ++ 10 ∷ []) at out.old result out.new }
+fn push_closed(text: &mut Buffer, language: Language, number: u8, line: u16)
+    requires { length text.old + length (sentence (language_in language) number line) < 1026 }
+    ensures { text.new ≡ text.old ++ (sentence (language_in language) number line ++ 10 ∷ []) }
 {
-    let end = put_sentence(language, number, line, out, at);
-    out[end] = 10;
-    end + 1
-}
-
-// A whole text at the front of a buffer, and its length; 0 for a shorter buffer, which stays as it is.
-fn put_whole(text: &[u8], out: &mut [u8]) -> usize
-    ensures { Put text.now out.old result out.new }
-{
-    if out.len() < text.len() {
-        return 0;
-    }
-    let mut i: usize = 0;
-    while i < text.len() {
-        out[i] = text[i];
-        i = i + 1;
-    }
-    text.len()
+    push_sentence(text, language, number, line);
+    text.push(10)
 }
 
 // The sentence of a refusal in language 0, English, or 1, French, and its length; 0 for a buffer without room or another language, and
@@ -125,12 +135,12 @@ fn put_whole(text: &[u8], out: &mut [u8]) -> usize
 pub fn sentence(number: u8, line: u16, language: u8, out: &mut [u8]) -> usize
     ensures { Put (sentence_in language number line) out.old result out.new }
 {
-    if 1 < language {
+    let Ok(language) = Language::try_from(language) else {
         return 0;
-    }
-    let mut buffer = [0u8; ROOM];
-    let n = put_sentence(language, number, line, &mut buffer, 0);
-    put_whole(&buffer[..n], out)
+    };
+    let mut text = Buffer::new();
+    push_sentence(&mut text, language, number, line);
+    text.copy_to(out)
 }
 
 // Both sentences of a refusal, English first, each closed by LF.
@@ -138,8 +148,8 @@ pub fn sentence(number: u8, line: u16, language: u8, out: &mut [u8]) -> usize
 pub fn both_sentences(number: u8, line: u16, out: &mut [u8]) -> usize
     ensures { Put (both_sentences number line) out.old result out.new }
 {
-    let mut buffer = [0u8; SHEET];
-    let a = put_closed(0, number, line, &mut buffer, 0);
-    let b = put_closed(1, number, line, &mut buffer, a);
-    put_whole(&buffer[..b], out)
+    let mut text = Buffer::new();
+    push_closed(&mut text, Language::English, number, line);
+    push_closed(&mut text, Language::French, number, line);
+    text.copy_to(out)
 }

@@ -1,7 +1,10 @@
 // The pieces of each language: one text, each piece closed by LF, in the order of `pieces`.
-ghost use Rattle.std.specs.Prelude.{◌≡◌, ◌+◌, ◌≤◌, [], length, drop, get_or};
-ghost use Rattle.sentences.specs.SheetOf.{language_of, first_line};
-ghost use Rattle.sentences.specs.Pieces.{pieces, past_lines, Over};
+ghost use Rattle.std.specs.Prelude.{◌≡◌, [], get_or};
+ghost use Rattle.sentences.specs.SheetOf.{in_lines, first_line, past_line};
+ghost use Rattle.sentences.specs.Pieces.{pieces, past_lines};
+ghost use Rattle.sentences.specs.Languages.{language_in};
+
+use crate::Language;
 
 const ENGLISH: [u8; 3934] = *b"\
     Line \n\
@@ -91,61 +94,52 @@ const FRENCH: [u8; 4587] = *b"\
     la file a plus de 8 entr\xc3\xa9es, ou le texte d\xe2\x80\x99une entr\xc3\xa9e finit au-del\xc3\xa0 du texte pr\xc3\xaat\xc3\xa9 (refus 18).\n\
 ";
 
-// The place behind the first k lines of a text.
-fn past_lines(text: &[u8], k: usize) -> usize
-    ensures { (drop result text.now ≡ past_lines k text.now) × (result ≤ length text.now) }
+// The first line of a text, without its LF.
+fn first_line(text: &[u8]) -> &[u8]
+    ensures { result.now ≡ first_line text.now }
 {
-    let mut i: usize = 0;
-    let mut left = k;
-    while 0 < left {
-        if text.len() <= i {
-            return i;
-        }
-        if text[i] == 10 {
-            left = left - 1;
-        }
-        i = i + 1;
+    match text.iter().position(|b| *b == 10) {
+        Some(i) => &text[..i],
+        None => text,
     }
-    i
 }
 
-// The line of a text that begins at a place, without its LF, put into a buffer.
-fn put_line(text: &[u8], from: usize, out: &mut [u8], at: usize) -> usize
-    requires { at + length (first_line (drop from text.now)) ≤ length out.old }
-    ensures { Over (first_line (drop from text.now)) at out.old result out.new }
+// What stands behind it.
+fn past_line(text: &[u8]) -> &[u8]
+    ensures { result.now ≡ past_line text.now }
 {
-    let mut i = from;
-    let mut place = at;
-    while i < text.len() {
-        let b = text[i];
-        if b == 10 {
-            return place;
-        }
-        out[place] = b;
-        place = place + 1;
-        i = i + 1;
+    let Some(i) = text.iter().position(|b| *b == 10) else {
+        return &[];
+    };
+    &text[i + 1..]
+}
+
+// A text without its first k lines.
+fn past_lines(text: &[u8], k: usize) -> &[u8]
+    ensures { result.now ≡ past_lines k text.now }
+{
+    let mut rest = text;
+    for _ in 0..k {
+        rest = past_line(rest);
     }
-    place
+    rest
 }
 
-// Line k of a text.
-fn put_kth(text: &[u8], k: usize, out: &mut [u8], at: usize) -> usize
-    requires { at + length (first_line (past_lines k text.now)) ≤ length out.old }
-    ensures { Over (first_line (past_lines k text.now)) at out.old result out.new }
-{
-    let from = past_lines(text, k);
-    put_line(text, from, out, at)
-}
-
-// Piece k of a language: 0 is English, any other number French.
+// All pieces of a language.
 // Refused: a wrong figure in an English limit; a wrong accent in a French word.
-pub fn put_piece(language: u8, k: usize, out: &mut [u8], at: usize) -> usize
-    requires { at + length (get_or (pieces (language_of language)) k []) ≤ length out.old }
-    ensures { Over (get_or (pieces (language_of language)) k []) at out.old result out.new }
+fn text_of(language: Language) -> &'static [u8]
+    ensures { result.now ≡ in_lines (pieces (language_in language)) }
 {
-    if language == 0 {
-        put_kth(&ENGLISH, k, out, at)
-    } else {
-        put_kth(&FRENCH, k, out, at)
+    match language {
+        Language::English => &ENGLISH,
+        Language::French => &FRENCH,
     }
+}
+
+// Piece k of a language.
+// Refused: another piece; the first for each.
+pub fn piece(language: Language, k: usize) -> &'static [u8]
+    ensures { result.now ≡ get_or (pieces (language_in language)) k [] }
+{
+    first_line(past_lines(text_of(language), k))
 }

@@ -8,8 +8,7 @@ use Rattle.catalog.specs.declared.plan.Plan.{Plan}
 use Rattle.checker.specs.Plans.{Plans}
 use Rattle.sentences.specs.SheetOf.{sheet_of, both_sentences}
 use Rattle.sentences.specs.Answers.{Put}
-use Rattle.sentences.proofs.PutLaws.{whole-none}
-use Rattle.sentences.proofs.RoomLaws.{put_same}
+use Rattle.sentences.proofs.RoomLaws.{whole-none, put_same}
 use Rattle.sentences.proofs.SheetLaws.{sheet-accepted, sheet-refused}
 
 module _ (text : List ℕ) (p : Plan) (h : Plans (file_of text) p) where

@@ -97,10 +97,8 @@ fn put_row(part: &mut [i32], at: usize, width: usize, row: Row)
     ensures { part.new ≡ put_cells part.old 0 at width (row_of row width) }
 {
     let values = row.values;
-    let mut c = 0;
-    while c < width {
+    for c in 0..width {
         put_cell(part, 0, at, c, values[c]);
-        c += 1;
     }
 }
 

@@ -18,18 +18,17 @@ use Rattle.meaning.proofs.Relations.{rows-mean}
 use Rattle.language.specs.Check.{Outcome}
 use Rattle.language.specs.FileOf.{file_of}
 use Rattle.language.proofs.TextLaws.{accepted-text}
-use Rattle.catalog.specs.FileIn.{Source, with_flags, source_of, TablesCounted, goal_of}
+use Rattle.catalog.specs.FileIn.{Source, source_of, TablesCounted, goal_of}
 use Rattle.catalog.specs.declared.plan.Goal.{Goal}
 use Rattle.catalog.specs.declared.plan.Plan.{Plan}
-use Rattle.catalog.proofs.FileLaws.{file-kept}
 use Rattle.checker.specs.Plans.{Plans}
 use Rattle.store.specs.Layout.{area}
 use Rattle.store.proofs.RowLaws.{only-more, only_wider}
 use Rattle.cases.specs.TablesIn.{TablesIn}
-use Rattle.cases.specs.Needs.{GoalIn, AllSet, NeedsOf}
+use Rattle.cases.specs.declared.needs.Needs.{Needs}
+use Rattle.cases.specs.Needs.{GoalIn, all_needs, NeedsOf}
 use Rattle.cases.specs.Judgement.{Memory, memory_from, Ready, Evaluates, IsCase}
-use Rattle.cases.proofs.FlagLaws.{all-flag}
-use Rattle.cases.proofs.Preparing.{counts-are, tables-kept, all-covers}
+use Rattle.cases.proofs.Preparing.{counts-are, tables-kept, all-needed, all-covers}
 use Rattle.trial.specs.Tried.{TablesStand, Evaluated, ByAlgebra, EveryRelation, TriedText, Tried}
 
 -- ---- buffers that are too short, and a text that is refused
@@ -59,19 +58,18 @@ refused-trial out p {counts} {work} a b h k = enough-trial a b (refused-text out
 
 -- ---- an accepted text
 
-pub every-relation : {source : Source} {shape₁ shape₂ : List ℕ} {g : Goal} {counts counts₁ : List ℕ} {work : List ℤ} {memory₂ memory₃ : Memory} {b : Bool}
-    → TablesCounted source.shape source.outline.tables counts counts₁ → NeedsOf source g shape₁
-    → IsCase (with_flags source shape₁) g (memory_from counts₁ (replicate 16 0) work) b memory₂ → AllSet 16 shape₁ shape₂
-    → Evaluates (with_flags source shape₂) memory₂ memory₃ → EveryRelation source g counts work b memory₃.counts memory₃.work
-every-relation {source} {shape₁} {shape₂} {g} {counts₁ = counts₁} {work} {memory₂} C N J S E = record {
+pub every-relation : {source : Source} {needs : Needs} {g : Goal} {counts counts₁ : List ℕ} {work : List ℤ} {memory₂ memory₃ : Memory} {b : Bool}
+    → TablesCounted source.shape source.outline.tables counts counts₁ → NeedsOf source g needs
+    → IsCase source needs g (memory_from counts₁ (replicate 16 0) work) b memory₂
+    → Evaluates source all_needs memory₂ memory₃ → EveryRelation source g counts work b memory₃.counts memory₃.work
+every-relation {source} {needs} {g} {counts₁ = counts₁} {work} {memory₂} C N J E = record {
   cells = only-more J.kept.cells E.kept.cells;
   size = E.kept.counts-size ∙ J.kept.counts-size ∙ C.size;
   others = λ i h v. E.kept.counts i v ∙ J.kept.counts i v ∙ C.others i h;
   evaluated = λ F M e d shaped T whole size.
       let tables : TablesIn F d counts₁ work = record { table = λ t h. rw (counts-are M C size t h) (T.table t h) } in
       let goal : GoalIn F (goal_of g) = subst (GoalIn F) (sym e) M.legal.goal in
-      let M₁ = file-kept M N.more.first in
-      let first : Ready F (goal_of g) d (with_flags source shape₁) (memory_from counts₁ (replicate 16 0) work) = record {
+      let first : Ready F (goal_of g) d needs (memory_from counts₁ (replicate 16 0) work) = record {
         covers = N.covers M goal;
         shaped = shaped;
         tables = tables;
@@ -79,8 +77,8 @@ every-relation {source} {shape₁} {shape₂} {g} {counts₁ = counts₁} {work}
         counts-size = omega (arith, C.size);
         signs-size = omega arith;
       } in
-      let second : Ready F (goal_of g) d (with_flags source shape₂) memory₂ = record {
-        covers = all-covers M.legal M₁.sized S (goal_of g) goal;
+      let second : Ready F (goal_of g) d all_needs memory₂ = record {
+        covers = all-covers M.legal (goal_of g) goal;
         shaped = shaped;
         tables = tables-kept M.tables J.kept tables;
         whole = omega (arith, J.kept.cells.size);
@@ -88,8 +86,8 @@ every-relation {source} {shape₁} {shape₂} {g} {counts₁ = counts₁} {work}
         signs-size = omega (arith, J.kept.signs-size);
       } in
       record {
-        case = ap (λ x. cond x 1 0) (J.case M₁ first ∙ ap (λ x. is_case F x d) e);
-        relation = λ i h. (E.known (file-kept M₁ S.more.first) second).rows-known i h (all-flag S M₁.sized false i (omega (arith, M.legal.relation_count)));
+        case = ap (λ x. cond x 1 0) (J.case M first ∙ ap (λ x. is_case F x d) e);
+        relation = λ i h. (E.known M second).rows-known i h (all-needed i (omega (arith, M.legal.relation_count)));
       };
 }
 

@@ -5,6 +5,7 @@ ghost use Rattle.language.specs.FileOf.{file_of};
 ghost use Rattle.catalog.specs.FileIn.{source_from};
 ghost use Rattle.trial.specs.Tried.{EveryRelation, Tried};
 
+use cases::needs::Needs;
 use cases::{judgement, needs};
 use catalog::outline;
 use catalog::outline::Outline;
@@ -22,21 +23,20 @@ const SHORT: u32 = 11 * 65536;
 // Whether the database is a case; then every relation is evaluated.
 fn every_relation(
     bytes: &[u8],
-    shape: &mut [u8],
+    shape: &[u8],
     o: Outline,
     goal: Goal,
     counts: &mut [u8],
     work: &mut [i32],
 ) -> bool
-    ensures { EveryRelation (source_from bytes.now shape.old o) goal
+    ensures { EveryRelation (source_from bytes.now shape.now o) goal
         counts.old work.old result counts.new work.new }
 {
     outline::count_tables(shape, o.tables, counts);
-    needs::needs_of(bytes, shape, o, goal);
+    let needs = needs::needs_of(bytes, shape, o, goal);
     let mut signs = [0u8; 16];
-    let case = judgement::is_case(bytes, shape, o, goal, counts, &mut signs, work);
-    needs::set_all(shape);
-    judgement::evaluate(bytes, shape, o, counts, &mut signs, work);
+    let case = judgement::is_case(bytes, shape, o, &needs, goal, counts, &mut signs, work);
+    judgement::evaluate(bytes, shape, o, &Needs::all(), counts, &mut signs, work);
     case
 }
 
@@ -59,8 +59,8 @@ pub extern "C" fn sakthveim_evaluate(text: &[u8], counts: &mut [u8], work: &mut 
         return (p.number as u32) * 65536 + (p.line as u32);
     }
     let bytes = p.bytes;
-    let mut shape = p.shape;
-    if every_relation(&bytes, &mut shape, p.outline, p.goal, counts, work) {
+    let shape = p.shape;
+    if every_relation(&bytes, &shape, p.outline, p.goal, counts, work) {
         1
     } else {
         0

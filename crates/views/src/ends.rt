@@ -31,6 +31,7 @@ pub(crate) fn behind(frame: &[u8], at: usize) -> usize
 {
     let mut next = at;
     let mut left: usize = 1;
+    // It counts the forms left and steps by a token's length, so there is no range to go over.
     while 0 < left {
         if frame.len() <= next {
             return next;

@@ -5,5 +5,6 @@ pub mod combination;
 pub mod ends;
 pub mod evaluation;
 pub mod grouping;
+pub mod reading;
 pub mod selection;
 pub mod sets;

@@ -5,7 +5,7 @@ use lib.ListN.{length}
 use Rattle.input.proofs.read.Given as goal
 
 abbrev pub invariant-loop-done : goal.invariant-loop-done
-invariant-loop-done g l = (l.done ≤ length l.text) × (length l.text ≡ length l.initial.text)
+invariant-loop-done g l = (l.done ≤ l.room) × (length l.text ≡ l.room)
 
 abbrev pub decreases-loop-done : goal.decreases-loop-done
-decreases-loop-done g l = length l.initial.text - l.done
+decreases-loop-done g l = l.room - l.done

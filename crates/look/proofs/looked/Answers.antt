@@ -14,7 +14,6 @@ returns-then-k-end c =
     finds-case
     (record {
       codes = _;
-      shape = _;
       cells = _;
       coded = c.cells_of-cells.ensures;
       room = omega arith;
@@ -29,7 +28,6 @@ returns c =
     finds-none
     (record {
       codes = _;
-      shape = _;
       cells = _;
       coded = c.cells_of-cells.ensures;
       room = omega arith;

@@ -1,42 +1,35 @@
 -- `sentences::both_sentences` meets its contract. Assumes nothing.
-use mathlib.Core.List.{[], ◌∷◌}
-use mathlib.Core.Path.{sym, refl}
+use mathlib.Core.Path.{sym, ap, ◌∙◌}
+use mathlib.Core.List.{[], ◌∷◌, ◌++◌}
 use native.Mathlib.Omega.{arith}
-use lib.ListN.{length-append}
-use lib.Seq.{length-take-le}
+use lib.ListN.{length, length-append}
+use Rattle.sentences.specs.declared.Language.TheVariants.{English, French}
 use Rattle.sentences.specs.English.{english}
+use Rattle.sentences.specs.French.{french}
 use Rattle.sentences.specs.Sentence.{sentence}
-use Rattle.sentences.proofs.PutLaws.{over-length}
-use Rattle.sentences.proofs.RoomLaws.{sentence-room, both-within, put_both}
+use Rattle.sentences.proofs.RoomLaws.{sentence-room, both-are, put_same}
 use Rattle.sentences.proofs.both_sentences.Goals as goal
 
-pub put_closed-a-requires : goal.put_closed-a-requires
-put_closed-a-requires c = let a = c.args in omega (arith, sentence-room 0 a.number a.line)
+pub push_closed-requires : goal.push_closed-requires
+push_closed-requires c = let a = c.args in omega (arith, ap length c.new-text.ensures, sentence-room English a.number a.line)
 
-pub put_closed-b-requires : goal.put_closed-b-requires
-put_closed-b-requires c = let a = c.args in
+pub push_closed-requires-2 : goal.push_closed-requires-2
+push_closed-requires-2 c =
+    let a = c.args in
+    let one = sentence english a.number a.line ++ 10 ∷ [] in
     omega (
       arith,
-      sentence-room 0 a.number a.line,
-      sentence-room 1 a.number a.line,
-      c.put_closed-a.ensures.next,
-      over-length c.put_closed-a.ensures,
+      ap length c.push_closed.ensures,
+      length-append c.new-text.result one,
+      ap length c.new-text.ensures,
+      sentence-room English a.number a.line,
+      sentence-room French a.number a.line,
       length-append (sentence english a.number a.line) (10 ∷ []),
     )
-
-pub slice_bounds-buffer-end : goal.slice_bounds-buffer-end
-slice_bounds-buffer-end c =
-    let a = c.args in
-    both-within a.number a.line refl c.put_closed-a.ensures c.put_closed-b.ensures
-
-pub slice_bounds-put_whole-end : goal.slice_bounds-put_whole-end
-slice_bounds-put_whole-end c =
-    let a = c.args in
-    sym
-    (length-take-le _ _ (both-within a.number a.line refl c.put_closed-a.ensures c.put_closed-b.ensures))
 
 pub returns : goal.returns
 returns c =
     let a = c.args in
-    put_both a.number a.line refl c.put_closed-a.ensures
-    c.put_closed-b.ensures c.put_whole.ensures
+    let second = sentence french a.number a.line ++ 10 ∷ [] in
+    let both = c.push_closed-2.ensures ∙ ap (λ x. x ++ second) (c.push_closed.ensures ∙ ap (λ x. x ++ (sentence english a.number a.line ++ 10 ∷ [])) c.new-text.ensures) in
+    put_same (both ∙ sym (both-are a.number a.line)) c.copy_to.ensures

@@ -1,29 +1,22 @@
 -- `sentences::sentence` meets its contract. Assumes nothing.
-use mathlib.Core.Path.{sym}
+use mathlib.Core.Path.{sym, ap, ◌∙◌}
+use mathlib.Core.List.{◌++◌}
 use native.Mathlib.Omega.{arith}
-use borrow.Author.Rules.{rules}
-use lib.Seq.{length-take-le}
-use Rattle.sentences.proofs.RoomLaws.{sentence-room, over-within, put-none, put_in}
+use lib.ListN.{length}
+use Rattle.sentences.specs.Sentence.{sentence}
+use Rattle.sentences.specs.Languages.{language_in}
+use Rattle.sentences.proofs.RoomLaws.{sentence-room, sentence-named, sentence-none, put_same, whole-none}
 use Rattle.sentences.proofs.sentence.Goals as goal
 
-pub returns-then-language-gt1 : goal.returns-then-language-gt1
-returns-then-language-gt1 c = let a = c.args in put-none a.language a.number a.line (search rules)
+pub returns-in_default : goal.returns-in_default
+returns-in_default c = let a = c.args in put_same (sym (sentence-none a.language a.number a.line c.in_default.ensures)) (whole-none _)
 
-pub put_sentence-n-requires : goal.put_sentence-n-requires
-put_sentence-n-requires c = let a = c.args in omega (arith, sentence-room a.language a.number a.line)
-
-pub slice_bounds-buffer-end : goal.slice_bounds-buffer-end
-slice_bounds-buffer-end c =
-    let a = c.args in
-    over-within c.put_sentence-n.ensures (sentence-room a.language a.number a.line)
-
-pub slice_bounds-put_whole-end : goal.slice_bounds-put_whole-end
-slice_bounds-put_whole-end c =
-    let a = c.args in
-    sym (length-take-le _ _ (over-within c.put_sentence-n.ensures (sentence-room a.language a.number a.line)))
+pub push_sentence-requires : goal.push_sentence-requires
+push_sentence-requires c = let a = c.args in omega (arith, ap length c.new-text.ensures, sentence-room c.in-Ok.language a.number a.line)
 
 pub returns : goal.returns
 returns c =
     let a = c.args in
-    put_in a.language a.number a.line (search rules) (search rules)
-    c.put_sentence-n.ensures c.put_whole.ensures
+    let t = c.in-Ok.language in
+    let held = c.push_sentence.ensures ∙ ap (λ x. x ++ sentence (language_in t) a.number a.line) c.new-text.ensures in
+    put_same (held ∙ sym (sentence-named t a.number a.line c.in-Ok.ensures)) c.copy_to.ensures

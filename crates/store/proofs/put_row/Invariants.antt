@@ -1,13 +1,7 @@
 -- `store::put_row` meets its contract. The loop has put the first c cells. Assumes nothing.
-use Prim.Native.Nat.{◌-◌, ◌≤◌}
 use mathlib.Core.Path.{◌≡◌}
-use lib.ListN.{length}
 use Rattle.store.specs.Rows.{put_cells, row_of}
 use Rattle.store.proofs.put_row.Given as goal
 
 abbrev pub invariant-loop-c : goal.invariant-loop-c
-invariant-loop-c l =
-    (l.c ≤ l.width) × (length l.part ≡ length l.initial.part) × (l.part ≡ put_cells l.initial.part 0 l.at l.c (row_of (record { values = l.values }) l.width))
-
-abbrev pub decreases-loop-c : goal.decreases-loop-c
-decreases-loop-c l = l.width - l.c
+invariant-loop-c l = l.part ≡ put_cells l.initial.part 0 l.at l.c (row_of (record { values = l.values }) l.width)

@@ -4,5 +4,5 @@ use Rattle.trial.proofs.every_relation.Goals as goal
 
 pub returns : goal.returns
 returns c =
-    every-relation c.count_tables.ensures c.needs_of.ensures c.is_case-case.ensures
-    c.set_all.ensures c.evaluate.ensures
+    every-relation c.count_tables.ensures c.needs_of-needs.ensures c.is_case-case.ensures
+    (rw c.all.ensures at c.evaluate.ensures)

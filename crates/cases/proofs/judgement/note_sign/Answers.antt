@@ -2,8 +2,8 @@
 use Rattle.cases.proofs.JudgementLaws.{sign-unasked, sign-noted}
 use Rattle.cases.proofs.judgement.note_sign.Goals as goal
 
-pub returns-then-not-is_asked : goal.returns-then-not-is_asked
-returns-then-not-is_asked c = sign-unasked c.is_asked.ensures (c.if-not-is_asked.true)
+pub returns-then-not-item_at : goal.returns-then-not-item_at
+returns-then-not-item_at c = sign-unasked c.item_at.ensures (c.if-not-item_at.true)
 
 pub returns : goal.returns
 returns c = sign-noted c.is_refuted-sign.ensures c.one_if.ensures.0 c.put_item.ensures

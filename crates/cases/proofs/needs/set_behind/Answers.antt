@@ -16,4 +16,4 @@ pub returns : goal.returns
 returns c =
     let a = c.args in
     behind-here a.v a.frame.now a.i _ c.item_at.ensures c.if-item_at-ne23.false
-    c.item_at-named.ensures c.if-v-named.false c.set_needed.ensures
+    c.item_at-named.ensures c.if-v-named.false c.put_item.ensures

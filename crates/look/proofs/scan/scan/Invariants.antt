@@ -7,7 +7,7 @@ use Rattle.look.proofs.scan.scan.Given as goal
 
 abbrev pub invariant-loop-k : goal.invariant-loop-k
 invariant-loop-k l =
-    Scanned (source_from l.bytes l.shape l.s.outline) l.ends l.codes l.s (memory_from l.initial.counts l.initial.signs l.initial.work) l.k (memory_from l.counts l.signs l.work)
+    Scanned (source_from l.bytes l.shape l.s.outline) l.ends l.codes l.needs l.s (memory_from l.initial.counts l.initial.signs l.initial.work) l.k (memory_from l.counts l.signs l.work)
 
 abbrev pub decreases-loop-k : goal.decreases-loop-k
 decreases-loop-k l = l.s.end - l.k

@@ -5,4 +5,4 @@ use Rattle.look.proofs.scan.search.Goals as goal
 pub returns : goal.returns
 returns c = searches c.count_tables.ensures
     c.put_candidate.ensures
-    c.needs_of.ensures c.scan.ensures
+    c.needs_of-needs.ensures c.scan.ensures

@@ -1,32 +1,21 @@
 -- `sentences::words::past_lines` meets its contract. Assumes nothing.
+use mathlib.Core.Path.{◌≡◌, sym, ap, ◌∙◌}
+use Prim.Native.Nat.{suc, ◌+◌, ◌-◌}
 use native.Mathlib.Omega.{arith}
-use borrow.Author.Rules.{rules}
-use Rattle.sentences.proofs.PutLaws.{passing-begin, passing-break, passing-byte, passing-short, passing-done}
+use Rattle.sentences.specs.Pieces.{past_lines}
 use Rattle.sentences.proofs.words.past_lines.Goals as goal
-use Rattle.sentences.proofs.words.past_lines.Goals.{then-text-i-eq10, else-text-i-eq10}
 
-pub loop-left-init : goal.loop-left-init
-loop-left-init c = passing-begin _ _
-
-pub returns-then-text-i : goal.returns-then-text-i
-returns-then-text-i c = passing-short _ _ c.loop-left.invariant (omega (arith, c.if-text-i))
-
-pub bounds-text-i : goal.bounds-text-i
-bounds-text-i c = omega arith
-
-pub overflow_sub-left : goal.overflow_sub-left
-overflow_sub-left c = omega arith
-
-pub overflow_add-i : goal.overflow_add-i
-overflow_add-i c = omega arith
-
-pub loop-left-smaller : goal.loop-left-smaller
-loop-left-smaller c = omega arith
-
-pub loop-left-preserved : goal.loop-left-preserved
-loop-left-preserved c =
-    let inv = c.loop-left.invariant in
-    elim c.if-text-i-eq10.branch [ then-text-i-eq10 h ↦ rw h.left-is (passing-break _ _ inv (search rules) (search rules) (search rules)) | else-text-i-eq10 h ↦ rw h.left-is (passing-byte _ _ inv (search rules) (search rules) (search rules)) ]
+pub loop-preserved : goal.loop-preserved
+unfolding past_lines
+loop-preserved c =
+    let l = c.loop in
+    let left = c.args.k - (l.counter + 1) in
+    let e : c.args.k - l.counter ≡ suc left = omega (arith, c.loop-test.true) in
+    ap (past_lines left) c.past_line-rest.ensures ∙ sym (ap (λ n. past_lines n l.rest.now) e) ∙ l.invariant
 
 pub returns : goal.returns
-returns c = passing-done _ _ c.loop-left.invariant (omega (arith, c.loop-left-test))
+unfolding past_lines
+returns c =
+    let l = c.loop in
+    let e : c.args.k - l.counter ≡ 0 = omega (arith, c.loop-test.false) in
+    sym (ap (λ n. past_lines n l.rest.now) e) ∙ l.invariant

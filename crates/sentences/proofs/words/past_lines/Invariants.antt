@@ -1,11 +1,9 @@
 -- `sentences::words::past_lines` meets its contract. Assumes nothing.
+use mathlib.Core.Path.{◌≡◌}
 use Prim.Native.Nat.{◌-◌}
-use lib.ListN.{length}
-use Rattle.sentences.proofs.PutLaws.{Passing}
+use Rattle.sentences.specs.Pieces.{past_lines}
 use Rattle.sentences.proofs.words.past_lines.Given as goal
 
-abbrev pub invariant-loop-left : goal.invariant-loop-left
-invariant-loop-left l = Passing l.text l.k l.i l.left
-
-abbrev pub decreases-loop-left : goal.decreases-loop-left
-decreases-loop-left l = length l.text - l.i
+-- what is left out so far, and as many lines as are still to come
+abbrev pub invariant-loop : goal.invariant-loop
+invariant-loop l = past_lines (l.k - l.counter) l.rest ≡ past_lines l.k l.fn.text

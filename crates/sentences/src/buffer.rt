@@ -1,0 +1,79 @@
+// A text that grows in a buffer with room for both sentences of a refusal.
+ghost use Rattle.std.specs.Prelude.{◌≡◌, ◌+◌, ◌≤◌, ◌<◌, ◌++◌, ◌∷◌, [], List, ℕ, length, take};
+ghost use Rattle.sentences.specs.Sentence.{figures};
+ghost use Rattle.sentences.specs.Answers.{Put};
+
+use crate::SHEET;
+use std::marker::Model;
+
+#[derive(Drop)]
+pub struct Buffer {
+    bytes: [u8; SHEET],
+    length: usize,
+}
+
+// Clauses see the text.
+impl Model for Buffer {
+    ghost Value = { List ℕ };
+
+    ghost view = { λ b. take b.length b.bytes };
+
+    ghost invariant = { λ b. b.length ≤ 1026 };
+}
+
+impl Buffer {
+    // Refused: a byte in an empty text; a full one.
+    pub fn new() -> Self
+        ensures { result ≡ [] }
+    {
+        Buffer {
+            bytes: [0; SHEET],
+            length: 0,
+        }
+    }
+
+    // Refused: another byte; one over the second.
+    pub fn push(&mut self, byte: u8)
+        requires { length self.old < 1026 }
+        ensures { self.new ≡ self.old ++ byte ∷ [] }
+    {
+        self.bytes[self.length] = byte;
+        self.length += 1;
+    }
+
+    // Refused: the length of the new bytes alone; what stood in the buffer before, turned round.
+    pub fn extend(&mut self, text: &[u8])
+        requires { length self.old + length text.now ≤ 1026 }
+        ensures { self.new ≡ self.old ++ text.now }
+    {
+        let end = self.length + text.len();
+        self.bytes[self.length..end].copy_from_slice(text);
+        self.length = end;
+    }
+
+    // Decimal figures.
+    // Refused: a last figure one too high; a first one too high.
+    pub fn push_figures(&mut self, n: u16)
+        requires { length self.old + length (figures n) ≤ 1026 }
+        ensures { self.new ≡ self.old ++ figures n }
+    {
+        if n < 10 {
+            return self.push(n as u8 + 48);
+        }
+        self.push_figures(n / 10);
+        self.push((n % 10) as u8 + 48)
+    }
+
+    // The text at the front of another buffer, and its length; 0 for a shorter one, which stays as it is.
+    // Refused: its first byte for all; no room for a text that just fits.
+    pub fn copy_to(&self, out: &mut [u8]) -> usize
+        ensures { Put self.now out.old result out.new }
+    {
+        let length = self.length;
+        if out.len() < length {
+            return 0;
+        }
+        out[..length].copy_from_slice(&self.bytes[..length]);
+        length
+    }
+}
