@@ -62,8 +62,10 @@ def functions(crate):
         for number, line in enumerate(source.read_text().split("\n")):
             if line == "#[cfg(test)]":
                 break
-            elif kind := re.match(r"impl (\w+)", line):
-                owner = [kind[1]]
+            elif kind := re.match(r"impl(?:<[^>]*>)? (?:(\w+)(?:<(\w+)>)? for )?(\w+)", line):
+                # (an impl of a trait is named after the type, the trait and its parameter)
+                trait, of, name = (part or "" for part in kind.groups())
+                owner = [name + trait + of[:1].upper() + of[1:]]
             elif line == "}":
                 owner = []
             elif named := re.match(r"\s*#\[cycle\((\w+)\)\]", line):

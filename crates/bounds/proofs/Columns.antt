@@ -1,31 +1,34 @@
 -- The range of a column in the catalog, and grouping columns in the frame. Assumes nothing.
-use mathlib.Core.Path.{◌≡◌, refl, sym, ap, ◌∙◌}
-use mathlib.Core.Bool.{Bool, true, false, not, ◌&&◌, ◌||◌, and-false}
+use Rattle.std.specs.Prelude.{Some}
+use mathlib.Core.Path.{◌≡◌, refl, sym, ap, ap₂, ◌∙◌}
+use mathlib.Core.Bool.{Bool, true, false, ◌&&◌, ◌||◌}
 use mathlib.Core.List.{List, []}
-use Prim.Native.Nat.{ℕ, zero, suc, ◌+◌, ◌*◌, ◌-◌, ◌≤◌, ◌<◌}
+use Prim.Native.Nat.{ℕ, zero, suc, ◌+◌, ◌*◌, ◌-◌, ◌≤◌, ◌<◌, min}
 use native.Mathlib.Omega.{arith}
-use lib.Dec.{eqb}
+use lib.Dec.{eqb, leb}
 use lib.IntN.{ℤ, pos}
 use lib.ListN.{length, get_or, get_or-eq_default, length-map}
+use borrow.Author.Tests.{leb-true, leb-false}
 use mir.Syntax.{w32}
 use mir.Val.{SFits}
 use Rattle.value.proofs.Decides.{by-test}
 use Rattle.range.specs.Ranges.{ranged, constant_of}
 use Rattle.range.specs.declared.Range.{Range}
-use Rattle.range.specs.declared.Ranged.TheVariants.{Within}
 use Rattle.range.proofs.Bits32.{ranged-fits}
 use Rattle.meaning.specs.Syntax.{Place}
 use Rattle.meaning.specs.Bounds.{any_column, grouping_column}
 use Rattle.meaning.proofs.ListSteps.{map_at}
 use Rattle.catalog.specs.Arrays.{ranges_in, range_at, items_in}
-use Rattle.bounds.specs.Walk.{places_from, item_range, permitted_of}
+use Rattle.bounds.specs.Walk.{places_from, item_range, permitted_in, permitted_of, is_grouped, is_where}
+use Rattle.bounds.specs.declared.Part.{Part}
+use Rattle.bounds.specs.declared.Part.TheVariants.{Where, Plain, Grouped}
 use Rattle.bounds.specs.declared.Rule.{Rule}
 
 -- ---- columns
 
 module _ (shape : List ℕ) (ends : List ℤ) (items : List ℕ) (i c : ℕ) where
   abbrev Answers : Range → Type 0
-  Answers r = Within r ≡ ranged (item_range shape ends items i c)
+  Answers r = Some r ≡ ranged (item_range shape ends items i c)
 
   pub no_item : length items ≤ i → Answers (constant_of (pos 0))
   unfolding item_range ranged
@@ -56,9 +59,12 @@ module _ (frame : List ℕ) where
       )
 
   module _ (i c : ℕ) where
-    pub past-grouping : {r : Bool} (n p : ℕ) → length frame ≤ p → r ≡ grouping_column (places_from frame (length frame) n) i c
+    pub past-grouping : {r : Bool} (n p : ℕ) → r ≡ grouping_column (places_from frame (min p (length frame)) n) i c
         → r ≡ grouping_column (places_from frame p n) i c
-    past-grouping n p h e = e ∙ ap (λ (gs : List Place). grouping_column gs i c) (past_end n (length frame) p (omega arith) h)
+    past-grouping n p e = by-test (leb p (length frame))
+        (λ t. let h : min p (length frame) ≡ p = omega (arith, leb-true p (length frame) t) in rw h at e)
+        (λ t. let l : length frame < p = leb-false p (length frame) t in
+        e ∙ ap (λ (gs : List Place). grouping_column gs i c) (past_end n (min p (length frame)) p (omega arith) (omega arith)))
 
     -- whether the column at a position is the one that is looked for
     abbrev same_at : ℕ → Bool
@@ -72,41 +78,60 @@ module _ (frame : List ℕ) where
         let k : n ≡ suc n - 1 = omega arith in
         ap (λ (m : ℕ). same_at at || grouping_column (places_from frame (at + 2) m) i c) k
 
-    -- none of the columns passed is the one: what is left decides
-    pub record Seeking (places count at left : ℕ) : Type 0 where
-      pub same : grouping_column (places_from frame places count) i c ≡ grouping_column (places_from frame at left) i c
-      pub near : at + 2 * left ≡ places + 2 * count
+    -- none of the first k columns is the one: what is left decides
+    pub record Seeking (places count k : ℕ) : Type 0 where
+      pub same : grouping_column (places_from frame places count) i c ≡ grouping_column (places_from frame (places + 2 * k) (count - k)) i c
 
-    pub none_passed : {places count : ℕ} → Seeking places count places count
-    none_passed = record { same = refl; near = refl }
+    pub none_passed : {places count : ℕ} → Seeking places count 0
+    none_passed {places} {count} =
+        let p : places ≡ places + 2 * 0 = omega arith in
+        let n : count ≡ count - 0 = omega arith in
+        record { same = ap₂ (λ (a m : ℕ). grouping_column (places_from frame a m) i c) p n }
 
-    module _ {places count at left : ℕ} (s : Seeking places count at left) where
-      pub seek_found : 0 < left → same_at at ≡ true → true ≡ grouping_column (places_from frame places count) i c
-      seek_found h e = sym (s.same ∙ turn at left h ∙ rw e)
+    module _ {places count k : ℕ} (s : Seeking places count k) where
+      pub seek_found : k < count → same_at (places + 2 * k) ≡ true → true ≡ grouping_column (places_from frame places count) i c
+      seek_found h e = sym (s.same ∙ turn (places + 2 * k) (count - k) (omega arith) ∙ rw e)
 
-      pub seek-on : 0 < left → same_at at ≡ false → Seeking places count (at + 2) (left - 1)
-      seek-on h e = record { same = s.same ∙ turn at left h ∙ rw e; near = omega (arith, s.near) }
+      pub seek-on : k < count → same_at (places + 2 * k) ≡ false → Seeking places count (k + 1)
+      seek-on h e =
+          let p : places + 2 * k + 2 ≡ places + 2 * (k + 1) = omega arith in
+          let n : count - k - 1 ≡ count - (k + 1) = omega arith in
+          let t : grouping_column (places_from frame (places + 2 * k) (count - k)) i c ≡ grouping_column (places_from frame (places + 2 * k + 2) (count - k - 1)) i c =
+          turn (places + 2 * k) (count - k) (omega arith) ∙ rw e in
+          record { same = s.same ∙ t ∙ ap₂ (λ (a m : ℕ). grouping_column (places_from frame a m) i c) p n }
 
-      pub seek-none : left ≤ 0 → false ≡ grouping_column (places_from frame places count) i c
+      pub seek-none : count ≤ k → false ≡ grouping_column (places_from frame places count) i c
       unfolding places_from
-      seek-none h = let z : left ≡ 0 = omega arith in sym (s.same ∙ rw z)
+      seek-none h = let z : count - k ≡ 0 = omega arith in sym (s.same ∙ rw z)
 
--- which columns may stand outside 07, in where and in having and select
+-- which columns may stand outside 07, where 07 may stand, and where 17
 module _ (frame : List ℕ) (rule : Rule) where
-  pub columns-any : rule.grouped ≡ false → (permitted_of frame rule).columns ≡ any_column
-  unfolding permitted_of
-  columns-any e = by-test rule.filter (λ t. rw (e, t)) (λ t. rw (e, t))
-
-  pub columns-grouping : rule.grouped ≡ true → (permitted_of frame rule).columns ≡ grouping_column (places_from frame rule.places rule.count)
+  pub columns-grouping : {places count : ℕ} → rule.part ≡ Grouped places count → (permitted_of frame rule).columns ≡ grouping_column (places_from frame places count)
   unfolding permitted_of
   columns-grouping e = rw e
 
-  -- and where 07 may stand
-  pub aggregates-are : (permitted_of frame rule).aggregates ≡ rule.grouped
+  pub columns-where : rule.part ≡ Where → (permitted_of frame rule).columns ≡ any_column
   unfolding permitted_of
-  aggregates-are = by-test rule.grouped (λ t. rw t) (λ t. by-test rule.filter (λ u. rw (t, u)) (λ u. rw (t, u)))
+  columns-where e = rw e
 
-  -- and where 17
-  pub exists-are : (permitted_of frame rule).exists ≡ (rule.filter && not rule.grouped)
+  pub columns-plain : rule.part ≡ Plain → (permitted_of frame rule).columns ≡ any_column
   unfolding permitted_of
-  exists-are = by-test rule.grouped (λ t. rw (t, and-false)) (λ t. by-test rule.filter (λ u. rw (t, u)) (λ u. rw (t, u)))
+  columns-plain e = rw e
+
+  pub aggregates-are : (permitted_of frame rule).aggregates ≡ is_grouped rule.part
+  unfolding permitted_of
+  aggregates-are = go rule.part
+    where
+      go : (p : Part) → (permitted_in frame p).aggregates ≡ is_grouped p
+      go Where = refl
+      go Plain = refl
+      go (Grouped places count) = refl
+
+  pub exists-are : (permitted_of frame rule).exists ≡ is_where rule.part
+  unfolding permitted_of
+  exists-are = go rule.part
+    where
+      go : (p : Part) → (permitted_in frame p).exists ≡ is_where p
+      go Where = refl
+      go Plain = refl
+      go (Grouped places count) = refl

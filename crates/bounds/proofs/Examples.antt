@@ -1,5 +1,6 @@
 -- The definitions by computation: one table of two columns, 0 to 9 and -5 to 5, at most 4 rows, and a frame that begins with the
 -- grouping column (0, 1). Assumes nothing.
+use Rattle.std.specs.Prelude.{Option, None, Some}
 use mathlib.Core.Path.{◌≡◌, refl}
 use mathlib.Core.Bool.{Bool, true, false}
 use mathlib.Core.List.{List, [], ◌∷◌}
@@ -8,13 +9,14 @@ use lib.IntN.{ℤ, pos, negsuc}
 use Rattle.value.specs.Integer.{min_z, max_z}
 use Rattle.value.specs.Value.{Operation, Comparison, Aggregate}
 use Rattle.range.specs.Ranges.{constant_of, range_from}
-use Rattle.range.specs.declared.Ranged.{Ranged}
-use Rattle.range.specs.declared.Ranged.TheVariants.{Within, Beyond}
+use Rattle.range.specs.declared.Range.{Range}
 use Rattle.meaning.specs.Syntax.{Expr, Cond}
 use Rattle.meaning.specs.Lists.{listed}
 use Rattle.meaning.specs.Bounds.{OpenRanges, within_c, Permitted, allowed_e, allowed_c}
 use Rattle.catalog.specs.Arrays.{ranges_from}
 use Rattle.catalog.specs.Items.{open_ranges_in}
+use Rattle.bounds.specs.declared.Part.{Part}
+use Rattle.bounds.specs.declared.Part.TheVariants.{Where, Plain, Grouped}
 use Rattle.bounds.specs.Walk.{places_from, permitted_of, item_range, ranged_e}
 
 abbrev shape : List ℕ
@@ -48,15 +50,15 @@ not_there = refl
 abbrev items : OpenRanges
 items = open_ranges_in shape ends 1 (0 ∷ []) 4
 
-abbrev answer : Expr → Ranged
+abbrev answer : Expr → Option Range
 answer e = ranged_e items e
 
-of-a-sum : answer (total (column 1)) ≡ Within (range_from (negsuc 19) (pos 20))
+of-a-sum : answer (total (column 1)) ≡ Some (range_from (negsuc 19) (pos 20))
 unfolding ranged_e ranges_from min_z max_z
 of-a-sum = refl
 
 -- a range inside counts, also where the whole fits
-inside-counts : answer (Expr.aggregate Aggregate.count cube) ≡ Beyond
+inside-counts : answer (Expr.aggregate Aggregate.count cube) ≡ None
 unfolding ranged_e ranges_from min_z max_z
 inside-counts = refl
 
@@ -77,45 +79,48 @@ outside-exists = refl
 
 -- ---- the rule on 07, in having or select
 
-abbrev rule : Bool → Bool → Permitted
-rule grouped filter = permitted_of (0 ∷ 1 ∷ []) (record { bound = 4; grouped = grouped; filter = filter; places = 0; count = 1 })
+abbrev rule : Part → Permitted
+rule part = permitted_of (0 ∷ 1 ∷ []) (record { bound = 4; part = part })
 
-abbrev permitted : Bool → Expr → Bool
-permitted grouped e = allowed_e (rule grouped false) e
+abbrev grouped : Part
+grouped = Grouped 0 1
 
-grouping-column : permitted true (column 1) ≡ true
+abbrev permitted : Part → Expr → Bool
+permitted part e = allowed_e (rule part) e
+
+grouping-column : permitted grouped (column 1) ≡ true
 unfolding permitted_of places_from
 grouping-column = refl
 
-other-column : permitted true (column 0) ≡ false
+other-column : permitted grouped (column 0) ≡ false
 unfolding permitted_of places_from
 other-column = refl
 
-other-column-inside : permitted true (total (column 0)) ≡ true
+other-column-inside : permitted grouped (total (column 0)) ≡ true
 unfolding permitted_of places_from
 other-column-inside = refl
 
-inside-another : permitted true (total (total (column 0))) ≡ false
+inside-another : permitted grouped (total (total (column 0))) ≡ false
 unfolding permitted_of places_from
 inside-another = refl
 
-in-where : permitted false (total (column 0)) ≡ false
+in-where : permitted Plain (total (column 0)) ≡ false
 unfolding permitted_of places_from
 in-where = refl
 
 -- ---- 17 in where, in the select of a basic view, and in having
 
-abbrev looks : Bool → Bool → Bool
-looks grouped filter = allowed_c (rule grouped filter) (Cond.exists 0 Cond.always)
+abbrev looks : Part → Bool
+looks part = allowed_c (rule part) (Cond.exists 0 Cond.always)
 
-exists-in-where : looks false true ≡ true
+exists-in-where : looks Where ≡ true
 unfolding permitted_of
 exists-in-where = refl
 
-exists-in-basic : looks false false ≡ false
+exists-in-basic : looks Plain ≡ false
 unfolding permitted_of
 exists-in-basic = refl
 
-exists-in-grouped : looks true false ≡ false
+exists-in-grouped : looks grouped ≡ false
 unfolding permitted_of
 exists-in-grouped = refl

@@ -1,30 +1,30 @@
 -- The range of an expression from the answers of its parts. Assumes nothing.
+use Rattle.std.specs.Prelude.{Option, None, Some}
 use mathlib.Core.Path.{◌≡◌, refl, sym, ap, ◌∙◌}
 use mathlib.Core.Bool.{Bool, true, false, ◌&&◌, cond, and-true, and-false}
 use mathlib.Core.List.{List}
 use Prim.Native.Nat.{ℕ}
 use native.Mathlib.Omega.{arith}
 use lib.IntN.{ℤ}
+use Rattle.std.specs.Option.{is_some}
 use Rattle.value.specs.Value.{Operation, Aggregate}
 use Rattle.value.proofs.Decides.{by-test}
 use Rattle.range.specs.Ranges.{within32, ranged, constant_of, hull_of, operated_of, rounded_of, aggregated_of}
 use Rattle.range.specs.declared.Range.{Range}
-use Rattle.range.specs.declared.Ranged.{Ranged}
-use Rattle.range.specs.declared.Ranged.TheVariants.{Within, Beyond}
 use Rattle.meaning.specs.Syntax.{Expr, Cond}
 use Rattle.meaning.specs.Bounds.{OpenRanges, range, within_e, within_c}
 use Rattle.catalog.specs.Items.{open_ranges_in}
 use Rattle.bounds.specs.Walk.{item_range, ranged_e, operated_r, rounded_r, hull_r, chosen_r, aggregated_r, is_within}
 
 -- the range, if it and the parts fit
-abbrev fitting : Bool → Range → Ranged
-fitting b r = cond b (Within r) Beyond
+abbrev fitting : Bool → Range → Option Range
+fitting b r = cond b (Some r) None
 
 with-parts : (r : Range) → fitting (within32 r && true) r ≡ ranged r
 unfolding ranged
 with-parts r = ap (λ (b : Bool). fitting b r) (and-true (within32 r))
 
-without-parts : (r : Range) → fitting (within32 r && false) r ≡ Beyond
+without-parts : (r : Range) → fitting (within32 r && false) r ≡ None
 without-parts r = ap (λ (b : Bool). fitting b r) (and-false (within32 r))
 
 of-operation : (op : Operation) (p q : Bool) (a b : Range)
@@ -57,6 +57,12 @@ unfolding is_within
 fitting-is true a = refl
 fitting-is false a = refl
 
+-- the code asks whether there is a range
+pub within-some : (r : Option Range) → is_some r ≡ is_within r
+unfolding is_within
+within-some (Some a) = refl
+within-some None = refl
+
 module _ (o : OpenRanges) where
   pub ranged-constant : (z : ℤ) → ranged (constant_of z) ≡ ranged_e o (Expr.constant z)
   unfolding ranged_e ranged
@@ -83,13 +89,13 @@ module _ (o : OpenRanges) where
   ranged-is a = fitting-is (within_e o a) (range o a)
 
   -- what the two answers say of the expression
-  pub ranged-answered : (e : Expr) {q : Range} → ranged_e o e ≡ Within q → (q ≡ range o e) × (within_e o e ≡ true)
+  pub ranged-answered : (e : Expr) {q : Range} → ranged_e o e ≡ Some q → (q ≡ range o e) × (within_e o e ≡ true)
   unfolding ranged_e
   ranged-answered e {q} h = by-test (within_e o e)
-      (λ t. let w : Within (range o e) ≡ Within q = rw t at h in let i : range o e ≡ q = cc in (sym i, t))
-      (λ t. let w : Beyond ≡ Within q = rw t at h in let z : ◌≡◌ {A = ℕ} 0 1 = cc in absurd (omega arith))
+      (λ t. let w : Some (range o e) ≡ Some q = rw t at h in let i : range o e ≡ q = cc in (sym i, t))
+      (λ t. let w : None ≡ Some q = rw t at h in let z : ◌≡◌ {A = ℕ} 0 1 = cc in absurd (omega arith))
 
-  pub ranged-beyond : (e : Expr) → ranged_e o e ≡ Beyond → within_e o e ≡ false
+  pub ranged-beyond : (e : Expr) → ranged_e o e ≡ None → within_e o e ≡ false
   unfolding is_within
   ranged-beyond e h = sym (ranged-is e) ∙ ap is_within h
 

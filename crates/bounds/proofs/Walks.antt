@@ -1,6 +1,7 @@
 -- What a walk answers at each token, from what it answers of the parts: one law for each kind of token. Assumes nothing.
+use Rattle.std.specs.Prelude.{Option, None}
 use mathlib.Core.Path.{◌≡◌, refl, sym, ap, ap₂, subst, ◌∙◌}
-use mathlib.Core.Bool.{Bool, true, false, not, ◌&&◌}
+use mathlib.Core.Bool.{Bool, true, false, ◌&&◌}
 use mathlib.Core.List.{List, [], ◌∷◌, ◌++◌}
 use Prim.Native.Nat.{ℕ, zero, suc, ◌+◌, ◌*◌, ◌-◌, ◌≤◌, ◌<◌}
 use native.Mathlib.Numerals.{add-one}
@@ -13,8 +14,7 @@ use borrow.Author.Tests.{ne_eqb}
 use Rattle.value.specs.Integer.{bytes_z}
 use Rattle.value.specs.Value.{operation_at, comparison_at, connective_at, aggregate_at}
 use Rattle.range.specs.Ranges.{ranged, constant_of}
-use Rattle.range.specs.declared.Ranged.{Ranged}
-use Rattle.range.specs.declared.Ranged.TheVariants.{Beyond}
+use Rattle.range.specs.declared.Range.{Range}
 use Rattle.meaning.specs.Syntax.{Expr, Cond}
 use Rattle.language.specs.Prefix.{operation_token, comparison_token, connective_token}
 use Rattle.language.specs.Reading.{Read, Open, byte, byte_if, step, choose, expressions, conditions, read_e, read_c}
@@ -22,7 +22,7 @@ use Rattle.meaning.specs.Bounds.{OpenRanges, within_c, allowed_e, allowed_c}
 use Rattle.language.proofs.Readers.{then_ok}
 use Rattle.language.proofs.PrefixForms.{read_e-nil, read_c-nil, read_e-step, read_c-step, read_e-operation, read_c-comparison, read_c-connection}
 use Rattle.catalog.specs.Items.{open_in, open_ranges_in}
-use Rattle.bounds.specs.Walk.{permitted_of, inside_of, where_of, ranged_e, operated_r, rounded_r, chosen_r, aggregated_r, is_within, sized, tested, column_sized, SizesE, SizesTwo, TestsC}
+use Rattle.bounds.specs.Walk.{permitted_of, is_grouped, is_where, inside_of, where_of, ranged_e, operated_r, rounded_r, chosen_r, aggregated_r, is_within, sized, tested, column_sized, SizesE, SizesTwo, TestsC}
 use Rattle.bounds.specs.declared.Rule.{Rule}
 use Rattle.bounds.specs.declared.Sized.{Sized}
 use Rattle.bounds.specs.declared.TwoSized.{TwoSized}
@@ -76,7 +76,7 @@ module _ (frame items shape : List ℕ) (ends : List ℤ) (rule : Rule) where
           (m.0, ap₂ ◌&&◌ l.1 m.1, l.2, m.2);
     }
 
-    pub end_e : length frame ≤ at → {r : Sized} → r ≡ sized at false Beyond → SizesE frame at items shape ends rule r
+    pub end_e : length frame ≤ at → {r : Sized} → r ≡ sized at false None → SizesE frame at items shape ends rule r
     end_e p s = rw s (record {
       further = omega arith;
       no-token = λ _. refl;
@@ -129,7 +129,7 @@ module _ (frame items shape : List ℕ) (ends : List ℤ) (rule : Rule) where
           rw t.0 (t.1, refl, ranged-column shape ends n items rule.bound (get_or frame (at + 1) 0) (get_or frame (at + 1 + 1) 0))))
 
       pub on-operation : 0x02 ≤ get_or frame at 0 → get_or frame at 0 < 0x05 → {p : TwoSized} → SizesTwo frame (at + 1) items shape ends rule p
-          → {v : Ranged} → v ≡ operated_r (operation_at (get_or frame at 0 - 0x02)) p.first p.second
+          → {v : Option Range} → v ≡ operated_r (operation_at (get_or frame at 0 - 0x02)) p.first p.second
           → {r : Sized} → r ≡ sized p.next p.allowed v → SizesE frame at items shape ends rule r
       on-operation lo hi {p} m {v} x s =
           let op = operation_at (get_or frame at 0 - 0x02) in
@@ -170,7 +170,7 @@ module _ (frame items shape : List ℕ) (ends : List ℤ) (rule : Rule) where
 
       pub on-aggregate : get_or frame at 0 ≡ 0x07 → {kind : ℕ} → kind ≡ get_or frame (at + 1) 0 → {inner : Rule} → inner ≡ inside_of rule
           → {a : Sized} → SizesE frame (at + 1 + 1) items shape ends inner a
-          → {r : Sized} → r ≡ sized a.next (rule.grouped && a.allowed) (aggregated_r (aggregate_at kind) rule.bound a.range) → SizesE frame at items shape ends rule r
+          → {r : Sized} → r ≡ sized a.next (is_grouped rule.part && a.allowed) (aggregated_r (aggregate_at kind) rule.bound a.range) → SizesE frame at items shape ends rule r
       unfolding permitted_of
       on-aggregate k {kind} e {inner} i {a} d' s =
           let d : SizesE frame (at + 1 + 1) items shape ends (inside_of rule) a = rw i at d' in
@@ -180,14 +180,14 @@ module _ (frame items shape : List ℕ) (ends : List ℤ) (rule : Rule) where
           let (b, w, u, z) = then_ok (read_e (W n) l) _ j in
           let t = kind_at frame (at + 1) here h in
           let f = d.sizes n b w (ap (read_e (W n)) t.1 ∙ u) in
-          settle (FactsE n (sized a.next (rule.grouped && a.allowed) (aggregated_r (aggregate_at kind) rule.bound a.range))) z
+          settle (FactsE n (sized a.next (is_grouped rule.part && a.allowed) (aggregated_r (aggregate_at kind) rule.bound a.range))) z
           (f.0, ap₂ ◌&&◌ (sym (aggregates-are frame rule)) f.1, ap₂ (λ c g. aggregated_r (aggregate_at c) rule.bound g) (e ∙ t.0) f.2 ∙ ranged-aggregate (I n) (aggregate_at o) b)))
 
       -- a token past the last
       other : (t k : ℕ) → 0x08 ≤ t → k < 0x08 → eqb t k ≡ false
       other t k h l = ne_eqb t k (λ e. omega arith)
 
-      pub unknown_e : 0x08 ≤ get_or frame at 0 → {r : Sized} → r ≡ sized at false Beyond → SizesE frame at items shape ends rule r
+      pub unknown_e : 0x08 ≤ get_or frame at 0 → {r : Sized} → r ≡ sized at false None → SizesE frame at items shape ends rule r
       unknown_e h s = rw s (record {
         further = omega arith;
         no-token = λ _. refl;
@@ -250,7 +250,7 @@ module _ (frame items shape : List ℕ) (ends : List ℤ) (rule : Rule) where
 
       pub on-exists : get_or frame at 0 ≡ 0x17 → {more : List ℕ} → (length items < 6 → more ≡ items ++ (get_or frame (at + 1) 0 ∷ []))
           → {inner : Rule} → inner ≡ where_of rule → {a : Tested} → TestsC frame (at + 1 + 1) more shape ends inner a
-          → {r : Tested} → r ≡ tested a.next ((rule.filter && not rule.grouped) && a.allowed) a.within
+          → {r : Tested} → r ≡ tested a.next (is_where rule.part && a.allowed) a.within
           → TestsC frame at items shape ends rule r
       unfolding permitted_of
       on-exists k {more} o {inner} i {a} d s =
@@ -260,7 +260,7 @@ module _ (frame items shape : List ℕ) (ends : List ℤ) (rule : Rule) where
           let d' : TestsC frame (at + 1 + 1) (items ++ (get_or frame (at + 1) 0 ∷ [])) shape ends (where_of rule) a =
           rw (o (few-items shape n items x.few), i) at d in
           let f = d'.tests n x.inner rest (ap (λ w. read_c w (drop (at + 1 + 1) frame)) (sym (opened-open shape n items before)) ∙ x.reads) in
-          subst (λ t. FactsC n (tested a.next ((rule.filter && not rule.grouped) && a.allowed) a.within) t rest) x.is (
+          subst (λ t. FactsC n (tested a.next (is_where rule.part && a.allowed) a.within) t rest) x.is (
             f.0,
             ap₂ ◌&&◌ (sym (exists-are frame rule)) f.1,
             f.2 ∙ ap (λ w. within_c w x.inner) (sym (opened-ranges shape n items before ends rule.bound)),

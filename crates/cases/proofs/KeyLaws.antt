@@ -23,14 +23,14 @@ use Rattle.language.specs.Frames.{no_table, mask_bits}
 use Rattle.language.specs.Legal.{table_at}
 use Rattle.language.specs.Written.{mask_of}
 use Rattle.language.proofs.MaskLaws.{bits_back}
-use Rattle.catalog.specs.Arrays.{width_at, mask_at}
 use Rattle.catalog.specs.FileIn.{Source, FileIn}
 use Rattle.catalog.proofs.FileLaws.{columns-are}
 use Rattle.store.specs.Layout.{cell_in}
 use Rattle.store.specs.Rows.{row_in, rows_in}
 use Rattle.store.proofs.RowLaws.{row-length, cell-of-row}
 use Rattle.cases.specs.TablesIn.{TablesIn}
-use Rattle.cases.specs.Validity.{all_below, differ_in, differs_from_earlier_in, key_in, key_at, keys_in}
+use Rattle.cases.specs.declared.validity.Table.{Table as Counted}
+use Rattle.cases.specs.Validity.{all_below, differ_in, differs_from_earlier_in, key_in, table_in, key_at, keys_in}
 use Rattle.cases.proofs.RowTests.{all-rows, pairwise-rows, all-each}
 
 -- ---- two rows, column by column
@@ -90,10 +90,10 @@ module _ (work : List ℤ) (t w mask : ℕ) where
     unfolding key_in
     keyed-is n e = rw (ne_eqb mask 0 n) (sym e ∙ pairwise-rows work t w (differ (mask_bits w mask)) rows)
 
-pub key-there : (shape counts : List ℕ) (work : List ℤ) (t : ℕ) {rows w mask : ℕ} {r : Bool} → rows ≡ get_or counts t 0 → w ≡ width_at shape t → mask ≡ mask_at shape t
-    → r ≡ key_in work t rows w mask → key_at shape counts work t ≡ r
+pub key-there : (shape counts : List ℕ) (work : List ℤ) (t : ℕ) {x : Counted} {r : Bool} → x ≡ table_in shape counts t
+    → r ≡ key_in work x.number x.rows x.width x.mask → key_at shape counts work t ≡ r
 unfolding key_at
-key-there shape counts work t er ew em e = sym (e ∙ rw (er, ew, em))
+key-there shape counts work t ex e = sym (e ∙ ap (λ (y : Counted). key_in work y.number y.rows y.width y.mask) ex)
 
 -- ---- the tables of a file
 

@@ -13,6 +13,7 @@ use Rattle.catalog.specs.declared.frames.KeyParts.{KeyParts}
 use Rattle.store.specs.Layout.{cell_in}
 use Rattle.store.specs.Rows.{row_in, rows_in}
 use Rattle.cases.specs.TablesIn.{TablesIn}
+use Rattle.cases.specs.declared.validity.Table.{Table}
 
 -- ---- tests of numbers
 
@@ -39,7 +40,10 @@ differs_from_earlier_in work table j width mask = all (λ μ. differ (mask_bits 
 unfoldable pub key_in : List ℤ → ℕ → ℕ → ℕ → ℕ → Bool
 key_in work table rows width mask = eqb mask 0 || pairwise (differ (mask_bits width mask)) (rows_in work table width rows)
 
--- the key of table t, with its rows, columns and mask as the arrays say; and of each table
+-- table t, with its rows, columns and mask as the arrays say; its key, and that of each table
+abbrev pub table_in : List ℕ → List ℕ → ℕ → Table
+table_in shape counts t = record { number = t; rows = get_or counts t 0; width = width_at shape t; mask = mask_at shape t }
+
 unfoldable pub key_at : List ℕ → List ℕ → List ℤ → ℕ → Bool
 key_at shape counts work t = key_in work t (get_or counts t 0) (width_at shape t) (mask_at shape t)
 

@@ -1,12 +1,11 @@
 // Whether the database whose tables stand in the work area is a case.
-ghost use Rattle.catalog.specs.FileIn.{source_from};
+ghost use Rattle.catalog.specs.FileIn.{source_in};
 ghost use Rattle.cases.specs.Judgement.{memory_from, SignNoted, RowsNoted, Evaluates, IsWanted, IsCase};
 
 use super::needs::Needs;
 use super::{relation, validity};
-use catalog::frames;
-use catalog::outline::Outline;
 use catalog::plan::Goal;
+use catalog::source::Source;
 use value::boolean;
 
 // Whether view v is negative, if it is asked.
@@ -35,25 +34,24 @@ fn note_rows(frame: &[u8], shape: &[u8], needs: &Needs, counts: &mut [u8], work:
 // The views whose rows are needed or whose sign is asked, from the first to the last. `counts` has the number of rows of each relation,
 // at first of the tables; `signs` has 1 for a negative view, else 0. Which rows and signs there are is said of a file in memory and a database
 // in the work area; which numbers may change, of every input. Nobody sees the rest: a plan is of a file, and what a search or a caller puts in
-// the work area is a database of it.
+// the work area is a database of it. `counts`, `signs` and `work` are no struct: its slices could not be lent apart behind one `&mut`.
 // Refused: the first frame for each; rows behind the last relation.
 pub fn evaluate(
-    bytes: &[u8],
-    shape: &[u8],
-    o: Outline,
+    source: &Source,
     needs: &Needs,
     counts: &mut [u8],
     signs: &mut [u8],
     work: &mut [i32],
 )
-    ensures { Evaluates (source_from bytes.now shape.now o) needs.now
+    ensures { Evaluates (source_in source.now) needs.now
         (memory_from counts.old signs.old work.old)
         (memory_from counts.new signs.new work.new) }
 {
-    for v in o.tables..o.relations {
-        let frame = frames::frame_of(bytes, shape, v);
+    let outline = source.outline;
+    for v in outline.tables..outline.relations {
+        let frame = source.frame(v);
         note_sign(frame, needs, counts, signs, work, v);
-        note_rows(frame, shape, needs, counts, work, v);
+        note_rows(frame, source.shape, needs, counts, work, v);
     }
 }
 
@@ -72,25 +70,23 @@ pub fn wanted(goal: Goal, counts: &[u8], signs: &[u8]) -> bool
 // changes; else what `wanted` says of what `evaluate` leaves. That this is the case is said of a file in memory and a database of it.
 // Refused: an empty database; a database that is not valid.
 pub fn is_case(
-    bytes: &[u8],
-    shape: &[u8],
-    o: Outline,
+    source: &Source,
     needs: &Needs,
     goal: Goal,
     counts: &mut [u8],
     signs: &mut [u8],
     work: &mut [i32],
 ) -> bool
-    ensures { IsCase (source_from bytes.now shape.now o) needs.now goal
+    ensures { IsCase (source_in source.now) needs.now goal
         (memory_from counts.old signs.old work.old) result
         (memory_from counts.new signs.new work.new) }
 {
-    if !o.filled {
+    if !source.outline.filled {
         return false;
     }
-    if !validity::is_valid(bytes, shape, o, counts, work) {
+    if !validity::is_valid(source, counts, work) {
         return false;
     }
-    evaluate(bytes, shape, o, needs, counts, signs, work);
+    evaluate(source, needs, counts, signs, work);
     wanted(goal, counts, signs)
 }

@@ -1,11 +1,11 @@
 // The relations that a goal depends on: whose rows are needed, and of which it is asked whether they are negative.
 ghost use Rattle.std.specs.Prelude.{◌≡◌, ◌<◌, length};
-ghost use Rattle.catalog.specs.FileIn.{source_from};
+ghost use Rattle.catalog.specs.FileIn.{source_in};
 ghost use Rattle.cases.specs.Needs.{no_needs, all_needs, goal_needs, set_flags, behind_at, behind_to, named_in, NamesSet, NeedsRows, NeedsSigns, NeedsOf};
 
 use catalog::frames;
-use catalog::outline::Outline;
 use catalog::plan::Goal;
+use catalog::source::Source;
 
 // Of each relation, whether its rows are needed, and whether it is asked if it is negative.
 #[derive(Clone, Copy)]
@@ -125,12 +125,13 @@ fn need_signs(frame: &[u8], needs: Needs, v: u8) -> Needs
 // What a goal depends on, from the last relation down. Which flags these are is said of every input; that none is left out, of a file in
 // memory.
 // Refused: the goal alone; what the first relation names for each.
-pub fn needs_of(bytes: &[u8], shape: &[u8], o: Outline, goal: Goal) -> Needs
-    ensures { NeedsOf (source_from bytes.now shape.now o) goal result }
+pub fn needs_of(source: &Source, goal: Goal) -> Needs
+    ensures { NeedsOf (source_in source.now) goal result }
 {
+    let outline = source.outline;
     let mut needs = Needs::of_goal(goal);
-    for v in (o.tables..o.relations).rev() {
-        let frame = frames::frame_of(bytes, shape, v);
+    for v in (outline.tables..outline.relations).rev() {
+        let frame = source.frame(v);
         needs = need_rows(frame, needs, v);
         needs = need_signs(frame, needs, v);
     }

@@ -19,7 +19,7 @@ use Rattle.meaning.proofs.ListSteps.{map_at}
 use Rattle.meaning.proofs.Stacks.{stack-keeps}
 use Rattle.language.specs.Legal.{LegalColumn, LegalTable, table_at}
 pub use Rattle.catalog.specs.Arrays.{no_column}
-use Rattle.catalog.specs.Arrays.{width_at, bound_at, start_at, ranges_from, schema_in, range_at, column_at, FirstKept}
+use Rattle.catalog.specs.Arrays.{width_at, bound_at, ranges_from, schema_in, range_at, column_at, FirstKept}
 use Rattle.catalog.specs.FileIn.{TablesKnown, Source, FileIn}
 use Rattle.catalog.proofs.ArrayLaws.{none, length-ranges}
 

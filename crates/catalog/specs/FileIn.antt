@@ -60,8 +60,6 @@ abbrev pub goal_of : GoalHere → Goal
 goal_of g = record { view = g.view; negative = g.negative }
 
 pub record PlanOf (F : File) (p : Plan) : Type 0 where
-  pub number : p.number ≡ 0
-  pub line : p.line ≡ 0
   pub file : FileIn F (source_of p) p.ends
   pub goal : goal_of p.goal ≡ F.goal
   pub candidates-are : p.candidates ≡ candidates F

@@ -1,5 +1,5 @@
 // Frames in the packed bytes of a file, and the parts of each kind of frame.
-ghost use Rattle.std.specs.Prelude.{◌≡◌, ◌+◌, min, length, get_or, take, drop};
+ghost use Rattle.std.specs.Prelude.{◌≡◌, ◌+◌, ◌*◌, min, length, get_or, take, drop};
 ghost use Rattle.catalog.specs.Frames.{frame_at, frame_in, table_parts_in, key_parts_in, froms_in, names_in, parts_after, set_parts_in, goal_in};
 
 use super::arrays;
@@ -62,6 +62,17 @@ fn part(bytes: &[u8], at: usize, n: u8) -> &[u8]
     let from = inside(bytes, at);
     let to = inside(bytes, from + (n as usize));
     &bytes[from..to]
+}
+
+// Two bytes, high byte first, 0 for each past the end.
+// Refused: 255 for 256; the high byte twice.
+pub fn word_at(frame: &[u8], at: usize) -> u16
+    ensures { result ≡ get_or frame.now at 0 * 256 + get_or frame.now (at + 1) 0 }
+{
+    if frame.len() <= at {
+        return 0;
+    }
+    u16::from_be_bytes([item_at(frame, at, 0), item_at(frame, at + 1, 0)])
 }
 
 // The frame whose length stands at a place; where the bytes end early, what there is of it.

@@ -6,18 +6,21 @@ use native.Mathlib.Nat.{mul_assoc, mul-pos, mul-le-mul_right}
 use native.Mathlib.Omega.{arith}
 use lib.IntN.{ℤ}
 use lib.ListN.{length, get_or}
+use lib.Dec.{leb}
+use mathlib.Core.Bool.{false}
+use borrow.Author.Tests.{leb-true, leb-false, lt-leb}
+use Rattle.std.proofs.Common.{Option}
+use Rattle.value.proofs.Decides.{by-test}
 use Rattle.value.specs.Value.{Column, size}
 use Rattle.meaning.specs.Lists.{copies}
 use Rattle.meaning.specs.Syntax.{Table}
 use Rattle.meaning.specs.Candidates.{sizes_product, cell_columns}
 use Rattle.meaning.proofs.Stacks.{by-lt}
 use Rattle.language.specs.Legal.{table_at}
+use Rattle.language.specs.Check.{candidate_limit}
 use Rattle.catalog.specs.Arrays.{no_column, column_at}
 use Rattle.catalog.specs.FileIn.{TablesKnown}
-use Rattle.checker.specs.CandidateCount.{too_many, capped_product, columns_from, table_cells, cells_from, CandidatesOf}
-
-sub-one : (n : ℕ) → suc n - 1 ≡ n
-sub-one n = omega arith
+use Rattle.checker.specs.CandidateCount.{too_many, capped_product, within_limit, columns_from, table_cells, cells_from, CandidatesOf}
 
 -- ---- capped products
 
@@ -74,12 +77,18 @@ module _ (shape : List ℕ) (ends : List ℤ) where
   table-back {ts} T t h = rw (T.rows t h, T.width t h)
       (ap (copies (table_at ts t).rows) (columns-back t 0 (table_at ts t).columns (λ i l. let z : 0 + i ≡ i = omega arith in ap (column_at shape ends t) z ∙ T.column t i h l)))
 
-  pub counted : (tables r : ℕ) → r ≡ capped_product 1 (cells_from shape ends 0 tables) → CandidatesOf shape ends tables r
-  counted tables r e = record {
-    here = e;
+  pub candidates-counted : (tables p : ℕ) (r : Option ℕ) → p ≡ capped_product 1 (cells_from shape ends 0 tables) → r ≡ within_limit p → CandidatesOf shape ends tables r
+  unfolding within_limit
+  candidates-counted tables p r e q = record {
+    here = q ∙ ap within_limit e;
     counted = λ ts T n.
         let c : cells_from shape ends 0 tables ≡ cell_columns ts = rw n (cells-back 0 ts (λ i l. let z : 0 + i ≡ i = omega arith in ap (table_cells shape ends) z ∙ table-back T i l)) in
-        e ∙ ap (capped_product 1) c ∙ capped-product 1 (cell_columns ts) (omega arith) ∙ ap (λ k. min k too_many) (omega arith);
+        let N = sizes_product (cell_columns ts) in
+        let m : p ≡ min N too_many = e ∙ ap (capped_product 1) c ∙ capped-product 1 (cell_columns ts) (omega arith) ∙ ap (λ k. min k too_many) (omega arith) in
+        q ∙ by-test (leb N candidate_limit)
+        (λ t. let l = leb-true N candidate_limit t in let k : p ≡ N = omega arith in ap within_limit k)
+        (λ t. let l = leb-false N candidate_limit t in
+        let u : leb p candidate_limit ≡ false = lt-leb p candidate_limit (omega arith) in rw (t, u));
   }
 
 -- ---- a turn of each loop, and its end: what is left to multiply with
@@ -88,16 +97,15 @@ pub no_cells : (xs : List Column) (left p : ℕ) → left ≡ 0 → capped_produ
 unfolding capped_product
 no_cells xs left p e = rw e
 
-pub table-turn : (xs : List Column) (left p q : ℕ) → 0 < left → q ≡ capped_product p xs → capped_product q (copies (left - 1) xs) ≡ capped_product p (copies left xs)
-table-turn xs zero p q h e = absurd (omega arith)
-table-turn xs (suc left) p q h e = rw (e, sub-one left) (sym (capped-append p xs (copies left xs)))
-
-pub all_left : (n : ℕ) → n - 0 ≡ n
-all_left n = omega arith
-
 -- one less is left of n behind i + 1
 left-of : (n i : ℕ) → i < n → n - i ≡ suc (n - (i + 1))
 left-of n i h = omega arith
+
+pub table-turn : (xs : List Column) (n k p q : ℕ) → k < n → q ≡ capped_product p xs → capped_product q (copies (n - (k + 1)) xs) ≡ capped_product p (copies (n - k) xs)
+table-turn xs n k p q h e = rw (e, left-of n k h) (sym (capped-append p xs (copies (n - (k + 1)) xs)))
+
+pub all_left : (n : ℕ) → n - 0 ≡ n
+all_left n = omega arith
 
 module _ (shape : List ℕ) (ends : List ℤ) where
   pub no-columns : (t c n p : ℕ) → n ≤ c → capped_product p (columns_from shape ends t c (n - c)) ≡ p

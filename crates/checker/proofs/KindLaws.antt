@@ -16,7 +16,7 @@ use Rattle.language.specs.Draft.{Draft, Item, added, relation_count, schemas_of,
 use Rattle.language.specs.Written.{set_kind}
 use Rattle.language.specs.Frames.{frame, whole_fault, set_frame}
 use Rattle.language.specs.Check.{whole_checked, read_checked}
-use Rattle.checker.specs.Faults.{fault_at, fault_of}
+use Rattle.checker.specs.Faults.{fault_at, fault_of, fault_told}
 use Rattle.checker.specs.Catalogued.{Catalogued, checked_fault, body_fault}
 use Rattle.checker.specs.FixedFaults.{TableFault, KeyFault, SetFault, GoalFault}
 use Rattle.checker.specs.Entries.{column_in, joined_with, TableEntered, SetEntered}
@@ -31,13 +31,17 @@ use Rattle.catalog.specs.declared.plan.Goal.{Goal as GoalHere}
 use Rattle.catalog.proofs.ArrayLaws.{puts-outside}
 use Rattle.catalog.proofs.PartsRead.{SetRead, set-read, goal-read}
 use Rattle.checker.specs.declared.state.Progress.{Progress}
+use Rattle.std.proofs.Common.{Result, Ok, Err}
+use Rattle.text.specs.Refusals.{number_of}
+use Rattle.text.specs.declared.refusal.Reason.{Reason}
+use Rattle.checker.proofs.FaultLaws.{number-some}
 use Rattle.checker.specs.declared.view_rules.Ruled.{Ruled}
 use Rattle.checker.proofs.EntryLaws.{key-entered, goal-entered}
 use Rattle.language.proofs.FairReaders.{Good, Nil}
 use Rattle.language.proofs.FairFrames.{Well, fair-frame}
 use Rattle.checker.proofs.SetLaws.{hulls-outside}
 use Rattle.checker.proofs.StandingLaws.{counts-table, counts-key, counts-view, counts-goal}
-use Rattle.checker.proofs.StepLaws.{step_at, Found, only_none, only-stored, turned-refused}
+use Rattle.checker.proofs.StepLaws.{Found, only_none, only-stored, only-ranges, turned-refused, turned-done}
 use Rattle.language.proofs.Turns.{item_stage, Turn, turn, stage-known}
 
 -- ---- an item that is read
@@ -56,19 +60,26 @@ item-turn d k bs i o r reads = turn d i (stage_of k) (item-stage d k bs i o read
 key-found : {f : List ℕ} {s : Progress} {shape : List ℕ} {ends : List ℤ} {n : ℕ} → KeyFault f shape s.tables n → Found 2 f s shape ends n
 key-found {ends = ends} k = λ d h o r. k.at d ends h.catalogued h.fits h.counts.tables
 
-module _ {f : List ℕ} {s : Progress} {shape : List ℕ} {ends : List ℤ} {n : ℕ} {s' : Progress} where
+-- an answer r that refuses by the reason e
+module _ {f : List ℕ} {s : Progress} {shape : List ℕ} {ends : List ℤ} (r : Result Progress Reason) (e : Reason) (p : r ≡ Err e) where
+  pub table-refused : TableFault f (number_of e) → Turned 1 f s shape ends shape ends r
+  table-refused t = turned-refused r e p only_none (λ d h o q. t.at d)
+
+  pub key-refused : KeyFault f shape s.tables (number_of e) → Turned 2 f s shape ends shape ends r
+  key-refused k = turned-refused r e p only_none (key-found k)
+
+  pub goal-refused : GoalFault f s.tables s.relations (number_of e) → Turned 7 f s shape ends shape ends r
+  goal-refused t = turned-refused r e p only_none (λ d h o q. t.at d h.counts.tables h.counts.relations)
+
+module _ {f : List ℕ} {s : Progress} {shape : List ℕ} {ends : List ℤ} {s' : Progress} where
   -- ---- 01
 
-  pub table-refused : TableFault f n → (n ≡ 0 → ⊥) → Turned 1 f s shape ends shape ends (step_at n s')
-  table-refused t nz = turned-refused n (λ d h o r. t.at d) nz
-
-  pub table_done : {shape' : List ℕ} {ends' : List ℤ} → TableFault f n → n ≡ 0 → TableEntered f s.relations shape ends shape' ends' → s' ≡ with_table s
-      → Turned 1 f s shape ends shape' ends' (step_at 0 s')
-  table_done {shape'} {ends'} t z e w = record {
-    only = let w = (table_parts_in f).width in only-stored w 1 w (table_parts_in f).rows (table_parts_in f).mask e.shape_is (rw e.ends-are (puts-outside (column_in f) ends s.relations w w (omega arith)));
-    fault = λ d h o r. sym z ∙ t.at d;
-    next = λ d i h o r reads whole. go d i h (item-stage d 1 (drop 1 f) i o reads) (item-turn d 1 (drop 1 f) i o r reads) reads;
-  }
+  pub table_done : {shape' : List ℕ} {ends' : List ℤ} → TableFault f 0 → TableEntered f s.relations shape ends shape' ends' → s' ≡ with_table s
+      → Turned 1 f s shape ends shape' ends' (Ok s')
+  table_done {shape'} {ends'} t e w = turned-done s'
+      (let w = (table_parts_in f).width in only-stored w 1 w (table_parts_in f).rows (table_parts_in f).mask e.shape_is (rw e.ends-are (puts-outside (column_in f) ends s.relations w w (omega arith))))
+      (λ d h o r. t.at d)
+      (λ d i h o r reads whole. go d i h (item-stage d 1 (drop 1 f) i o reads) (item-turn d 1 (drop 1 f) i o r reads) reads)
     where
       go : (d : Draft) (i : Item) → DraftIn d s shape ends → 1 ≡ item_stage i → Turn d i → frame d 1 (drop 1 f) ≡ Read.ok i []
           → Counts (added d i) s' × Catalogued (added d i) shape' ends'
@@ -81,15 +92,9 @@ module _ {f : List ℕ} {s : Progress} {shape : List ℕ} {ends : List ℤ} {n :
 
   -- ---- 02
 
-  pub key-refused : KeyFault f shape s.tables n → (n ≡ 0 → ⊥) → Turned 2 f s shape ends shape ends (step_at n s')
-  key-refused k nz = turned-refused n (key-found k) nz
-
-  pub key-done : KeyFault f shape s.tables n → n ≡ 0 → s' ≡ with_key s → Turned 2 f s shape ends shape ends (step_at 0 s')
-  key-done k z w = record {
-    only = only_none;
-    fault = λ d h o r. sym z ∙ key-found k d h o r;
-    next = λ d i h o r reads whole. go d i h (item-stage d 2 (drop 1 f) i o reads) (item-turn d 2 (drop 1 f) i o r reads);
-  }
+  pub key-done : KeyFault f shape s.tables 0 → s' ≡ with_key s → Turned 2 f s shape ends shape ends (Ok s')
+  key-done k w = turned-done s' only_none (key-found k)
+      (λ d i h o r reads whole. go d i h (item-stage d 2 (drop 1 f) i o reads) (item-turn d 2 (drop 1 f) i o r reads))
     where
       go : (d : Draft) (i : Item) → DraftIn d s shape ends → 2 ≡ item_stage i → Turn d i → Counts (added d i) s' × Catalogued (added d i) shape ends
       go d (Item.table t) h p turn = absurd (omega arith)
@@ -125,48 +130,55 @@ stage-own : (grouped : Bool) → stage_of (own_kind grouped) ≡ 3
 stage-own true = refl
 stage-own false = refl
 
-module _ (grouped : Bool) {f : List ℕ} {s : Progress} {shape : List ℕ} {ends : List ℤ} {n : ℕ} where
-  pub view-refused : {s' : Progress} → BytesFault grouped f shape s.relations n → (n ≡ 0 → ⊥)
-      → Turned (own_kind grouped) f s shape ends shape ends (step_at n s')
+module _ (grouped : Bool) {f : List ℕ} {s : Progress} {shape : List ℕ} {ends : List ℤ} where
+  pub view-refused : (r : Result Progress Reason) (e : Reason) → r ≡ Err e → BytesFault grouped f shape s.relations (number_of e)
+      → Turned (own_kind grouped) f s shape ends shape ends r
   unfolding body_fault fault_at
-  view-refused b nz = turned-refused n
-      (λ d h o r.
-      let e : n ≡ fault_of (frame d (own_kind grouped) (drop 1 f)) = b.at d ends h.catalogued h.counts.relations ∙ ap (λ (m : Reader Item). fault_of (m (drop 1 f))) (sym (frame-own grouped d)) in
-      e ∙ sym (body_refused d (frame d (own_kind grouped) (drop 1 f)) (λ z. nz (e ∙ z))))
-      nz
+  view-refused r e p b = turned-refused r e p only_none
+      (λ d h o q.
+      let y : number_of e ≡ fault_of (frame d (own_kind grouped) (drop 1 f)) =
+      b.at d ends h.catalogued h.counts.relations ∙ ap (λ (m : Reader Item). fault_of (m (drop 1 f))) (sym (frame-own grouped d)) in
+      y ∙ sym (body_refused d (frame d (own_kind grouped) (drop 1 f)) (λ z. number-some e (y ∙ z))))
 
   -- the view that is read
-  view-read : BytesFault grouped f shape s.relations n → n ≡ 0 → (d : Draft) → DraftIn d s shape ends → in_order d (own_kind grouped) ≡ true
+  view-read : BytesFault grouped f shape s.relations 0 → (d : Draft) → DraftIn d s shape ends → in_order d (own_kind grouped) ≡ true
       → (q : View) × (frame d (own_kind grouped) (drop 1 f) ≡ Read.ok (Item.view q) [])
   unfolding fault_at
-  view-read b z d h o =
-      let e : fault_of (frame d (own_kind grouped) (drop 1 f)) ≡ 0 = ap (λ (m : Reader Item). fault_of (m (drop 1 f))) (frame-own grouped d) ∙ sym (b.at d ends h.catalogued h.counts.relations) ∙ z in
+  view-read b d h o =
+      let e : fault_of (frame d (own_kind grouped) (drop 1 f)) ≡ 0 = ap (λ (m : Reader Item). fault_of (m (drop 1 f))) (frame-own grouped d) ∙ sym (b.at d ends h.catalogued h.counts.relations) in
       let (i, reads, p) = read-well ((fair-frame d (own_kind grouped) (stage-known d (own_kind grouped) o)).good (drop 1 f)) e in
       let (q, v) = as-view i (sym (stage-own grouped) ∙ p.0) in
       (q, reads ∙ ap (λ (x : Item). Read.ok x []) v)
 
-  pub view-done : {s' : Progress} {shape' : List ℕ} {ends' : List ℤ} (a : Ruled) → BytesFault grouped f shape s.relations n → n ≡ 0
-      → Rules (own_frame grouped) f s.relations shape ends ends' a → shape' ≡ put_shape shape s.relations 2 a.width a.bound 0 → s' ≡ with_view s
-      → Turned (own_kind grouped) f s shape ends shape' ends' (step_at a.fault s')
+  -- what the rules answer is the fault of its body
+  view-found : {ends' : List ℤ} (a : Result Ruled Reason) → BytesFault grouped f shape s.relations 0 → Rules grouped f s.relations shape ends ends' a
+      → Found (own_kind grouped) f s shape ends (fault_told a)
   unfolding body_fault
-  view-done {s'} {shape'} {ends'} a b z rules p w = record {
-    only = only-stored a.width 2 a.width a.bound 0 p rules.outside;
-    fault = λ d h o r.
-        let (q, reads) = view-read b z d h o in
-        let there : own_frame grouped d (drop 1 f) ≡ Read.ok (Item.view q) [] = ap (λ (m : Reader Item). m (drop 1 f)) (sym (frame-own grouped d)) ∙ reads in
-        let room = (item-turn d (own_kind grouped) (drop 1 f) (Item.view q) o r reads).room in
-        rules.fault d q h.catalogued h.counts.relations (omega (arith, h.counts.relations)) there
-        ∙ sym (ap (λ (m : Read Item). checked_fault (read_checked d m)) reads ∙ body-whole d (Item.view q));
-    next = λ d i h o r reads whole. go d i h (sym (stage-own grouped) ∙ item-stage d (own_kind grouped) (drop 1 f) i o reads) (item-turn d (own_kind grouped) (drop 1 f) i o r reads)
-        (ap (λ (m : Reader Item). m (drop 1 f)) (sym (frame-own grouped d)) ∙ reads) whole;
-  }
+  view-found a b rules d h o r =
+      let (q, reads) = view-read b d h o in
+      let there : own_frame grouped d (drop 1 f) ≡ Read.ok (Item.view q) [] = ap (λ (m : Reader Item). m (drop 1 f)) (sym (frame-own grouped d)) ∙ reads in
+      let room = (item-turn d (own_kind grouped) (drop 1 f) (Item.view q) o r reads).room in
+      rules.fault d q h.catalogued h.counts.relations (omega (arith, h.counts.relations)) there
+      ∙ sym (ap (λ (m : Read Item). checked_fault (read_checked d m)) reads ∙ body-whole d (Item.view q))
+
+  -- a rule that is broken
+  pub view-broken : {ends' : List ℤ} (r : Result Progress Reason) (e : Reason) → r ≡ Err e → BytesFault grouped f shape s.relations 0
+      → Rules grouped f s.relations shape ends ends' (Err e) → Turned (own_kind grouped) f s shape ends shape ends' r
+  view-broken r e p b rules = turned-refused r e p (only-ranges _ rules.outside) (view-found (Err e) b rules)
+
+  pub view-done : {s' : Progress} {shape' : List ℕ} {ends' : List ℤ} (x : Ruled) → BytesFault grouped f shape s.relations 0
+      → Rules grouped f s.relations shape ends ends' (Ok x) → shape' ≡ put_shape shape s.relations 2 x.width x.bound 0 → s' ≡ with_view s
+      → Turned (own_kind grouped) f s shape ends shape' ends' (Ok s')
+  view-done {s'} {shape'} {ends'} x b rules p w = turned-done s' (only-stored _ 2 x.width x.bound 0 p rules.outside) (view-found (Ok x) b rules)
+      (λ d i h o r reads whole. go d i h (sym (stage-own grouped) ∙ item-stage d (own_kind grouped) (drop 1 f) i o reads) (item-turn d (own_kind grouped) (drop 1 f) i o r reads)
+      (ap (λ (m : Reader Item). m (drop 1 f)) (sym (frame-own grouped d)) ∙ reads) whole)
     where
       go : (d : Draft) (i : Item) → DraftIn d s shape ends → 3 ≡ item_stage i → Turn d i → own_frame grouped d (drop 1 f) ≡ Read.ok i [] → whole_fault d i ≡ 0
           → Counts (added d i) s' × Catalogued (added d i) shape' ends'
       go d (Item.table t) h e turn reads whole = absurd (omega arith)
-      go d (Item.key x) h e turn reads whole = absurd (omega arith)
+      go d (Item.key k) h e turn reads whole = absurd (omega arith)
       go d (Item.view q) h e turn reads whole =
-          (rw w (counts-view h.counts q turn), rw p (rules.entered d q h.catalogued h.counts.relations (omega (arith, h.counts.relations, turn.room)) reads whole))
+          (rw w (counts-view h.counts q turn), rw p (rules.entered d q x refl h.catalogued h.counts.relations (omega (arith, h.counts.relations, turn.room)) reads whole))
       go d (Item.goal g) h e turn reads whole = absurd (omega arith)
 
 -- ---- 05, 06
@@ -189,24 +201,23 @@ set-frame : (op : SetOperation) (d : Draft) → frame d (set_kind op) ≡ set_fr
 set-frame SetOperation.union d = refl
 set-frame SetOperation.intersection d = refl
 
-module _ (op : SetOperation) {f : List ℕ} {s : Progress} {shape : List ℕ} {ends : List ℤ} {n : ℕ} where
-  set_found : SetFault f shape s.tables s.relations op n → Found (set_kind op) f s shape ends n
+module _ (op : SetOperation) {f : List ℕ} {s : Progress} {shape : List ℕ} {ends : List ℤ} where
+  set_found : {n : ℕ} → SetFault f shape s.tables s.relations op n → Found (set_kind op) f s shape ends n
   set_found t = λ d h o r. t.at d ends h.catalogued h.counts.tables h.counts.relations ∙ ap (λ (m : Reader Item). body_fault d m f) (sym (set-frame op d))
 
-  pub set-refused : {s' : Progress} → SetFault f shape s.tables s.relations op n → (n ≡ 0 → ⊥) → Turned (set_kind op) f s shape ends shape ends (step_at n s')
-  set-refused t nz = turned-refused n (set_found t) nz
+  pub set-refused : (r : Result Progress Reason) (e : Reason) → r ≡ Err e → SetFault f shape s.tables s.relations op (number_of e)
+      → Turned (set_kind op) f s shape ends shape ends r
+  set-refused r e p t = turned-refused r e p only_none (set_found t)
 
-  pub set-done : {s' : Progress} {shape' : List ℕ} {ends' : List ℤ} {p : SetParts} → SetFault f shape s.tables s.relations op n → n ≡ 0 → p ≡ set_parts_in f
-      → SetEntered op p.left p.right s.relations shape ends shape' ends' → s' ≡ with_view s → Turned (set_kind op) f s shape ends shape' ends' (step_at 0 s')
-  set-done {s'} {shape'} {ends'} {p} t z pe e w = record {
-    only =
-        let other = joined_with op p.left p.right in
-        let w = min (width_at shape p.left) (width_at shape other) in
-        only-stored w 2 w (min (set_bound op (bound_at shape p.left) (bound_at shape p.right)) 255) 0 e.shape_is (rw e.ends-are (hulls-outside shape ends p.left other s.relations w w (omega arith)));
-    fault = λ d h o r. sym z ∙ set_found t d h o r;
-    next = λ d i h o r reads whole. go d i h (set-read d op f i (ap (λ (m : Reader Item). m (drop 1 f)) (sym (set-frame op d)) ∙ reads))
-        (item-turn d (set_kind op) (drop 1 f) i o r reads) whole;
-  }
+  pub set-done : {s' : Progress} {shape' : List ℕ} {ends' : List ℤ} {p : SetParts} → SetFault f shape s.tables s.relations op 0 → p ≡ set_parts_in f
+      → SetEntered op p.left p.right s.relations shape ends shape' ends' → s' ≡ with_view s → Turned (set_kind op) f s shape ends shape' ends' (Ok s')
+  set-done {s'} {shape'} {ends'} {p} t pe e w = turned-done s'
+      (let other = joined_with op p.left p.right in
+      let w = min (width_at shape p.left) (width_at shape other) in
+      only-stored w 2 w (min (set_bound op (bound_at shape p.left) (bound_at shape p.right)) 255) 0 e.shape_is (rw e.ends-are (hulls-outside shape ends p.left other s.relations w w (omega arith))))
+      (set_found t)
+      (λ d i h o r reads whole. go d i h (set-read d op f i (ap (λ (m : Reader Item). m (drop 1 f)) (sym (set-frame op d)) ∙ reads))
+      (item-turn d (set_kind op) (drop 1 f) i o r reads) whole)
     where
       own : SetEntered op (set_parts_in f).left (set_parts_in f).right s.relations shape ends shape' ends'
       own = subst (λ (x : SetParts). SetEntered op x.left x.right s.relations shape ends shape' ends') pe e
@@ -226,13 +237,10 @@ module _ (op : SetOperation) {f : List ℕ} {s : Progress} {shape : List ℕ} {e
 
 -- ---- 07
 
-pub goal-done : {f : List ℕ} {s : Progress} {shape : List ℕ} {ends : List ℤ} {n : ℕ} {s' : Progress} {g : GoalHere} → GoalFault f s.tables s.relations n
-    → g ≡ goal_in f → s' ≡ with_goal s g → Turned 7 f s shape ends shape ends (step_at n s')
-goal-done {f} {s} {shape} {ends} {n} {s'} {g} t e w = record {
-  only = only_none;
-  fault = λ d h o r. t.at d h.counts.tables h.counts.relations;
-  next = λ d i h o r reads whole.
-      let goal = goal_of (goal_in f) in
-      subst (λ (x : Item). Counts (added d x) s' × Catalogued (added d x) shape ends) (sym (goal-read d f i reads))
-      (rw w (counts-goal h.counts goal g (ap goal_of e)), goal-entered h.catalogued goal);
-}
+pub goal-done : {f : List ℕ} {s : Progress} {shape : List ℕ} {ends : List ℤ} {s' : Progress} {g : GoalHere} → GoalFault f s.tables s.relations 0
+    → g ≡ goal_in f → s' ≡ with_goal s g → Turned 7 f s shape ends shape ends (Ok s')
+goal-done {f} {s} {shape} {ends} {s'} {g} t e w = turned-done s' only_none (λ d h o r. t.at d h.counts.tables h.counts.relations)
+    (λ d i h o r reads whole.
+    let goal = goal_of (goal_in f) in
+    subst (λ (x : Item). Counts (added d x) s' × Catalogued (added d x) shape ends) (sym (goal-read d f i reads))
+    (rw w (counts-goal h.counts goal g (ap goal_of e)), goal-entered h.catalogued goal))

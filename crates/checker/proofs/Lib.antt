@@ -3,6 +3,7 @@
 pub mod FieldLaws
 -- frames of fixed layout
 pub mod SizedLaws
+pub mod FaultLaws
 pub mod BodyLaws
 pub mod PairLaws
 pub mod FixedLaws

@@ -2,7 +2,7 @@
 use mathlib.Core.Path.{◌≡◌, refl, sym, ap, ap₂, ◌∙◌}
 use mathlib.Core.Bool.{Bool, true, false, cond}
 use mathlib.Core.List.{List, [], ◌∷◌}
-use Prim.Native.Nat.{ℕ, zero, suc, ◌+◌, ◌-◌, ◌/◌, ◌≤◌, ◌<◌}
+use Prim.Native.Nat.{ℕ, zero, suc, ◌+◌, ◌*◌, ◌-◌, ◌/◌, ◌≤◌, ◌<◌}
 use native.Mathlib.Numerals.{add-one}
 use native.Mathlib.Omega.{arith}
 use lib.Dec.{eqb}
@@ -76,49 +76,34 @@ tick-sum : (t : Bool) (k : ℕ) → tick t k ≡ tick t 0 + k
 tick-sum true k = omega arith
 tick-sum false k = omega arith
 
-module _ (frame : List ℕ) (i at left : ℕ) where
-  pub parents-more : (count one total : ℕ) → 0 < left → one ≡ tick (eqb (get_or frame (at + 1) 0) i) 0
-      → count + parent_count frame i at left ≡ total → (count + one) + parent_count frame i (at + 2) (left - 1) ≡ total
+module _ (frame : List ℕ) (i n : ℕ) where
+  -- pair k is counted, and n - k pairs are left from it on
+  pub parents-more : (k count one total : ℕ) → k < n → one ≡ tick (eqb (get_or frame (5 + k * 2) 0) i) 0
+      → count + parent_count frame i (4 + k * 2) (n - k) ≡ total → (count + one) + parent_count frame i (4 + (k + 1) * 2) (n - (k + 1)) ≡ total
   unfolding parent_count
-  parents-more count one total h e inv = go left h inv
-    where
-      go : (m : ℕ) → 0 < m → count + parent_count frame i at m ≡ total → (count + one) + parent_count frame i (at + 2) (m - 1) ≡ total
-      go zero h inv = absurd (omega arith)
-      go (suc m) h inv =
-          let z : suc m - 1 ≡ m = omega arith in
-          let s = tick-sum (eqb (get_or frame (at + 1) 0) i) (parent_count frame i (at + 2) m) in
-          rw z (omega arith)
+  parents-more k count one total h e inv =
+      let z : n - k ≡ suc (n - (k + 1)) = omega arith in
+      let a : 4 + k * 2 + 1 ≡ 5 + k * 2 = omega arith in
+      let b : 4 + (k + 1) * 2 ≡ 4 + k * 2 + 2 = omega arith in
+      let s = tick-sum (eqb (get_or frame (5 + k * 2) 0) i) (parent_count frame i (4 + k * 2 + 2) (n - (k + 1))) in
+      let v = rw (z, a) at inv in
+      rw b (omega arith)
 
-  pub parents-end : left ≤ 0 → parent_count frame i at left ≡ 0
+  pub parents-end : (k count total : ℕ) → n ≤ k → count + parent_count frame i (4 + k * 2) (n - k) ≡ total → count ≡ total
   unfolding parent_count
-  parents-end h = go left h
-    where
-      go : (m : ℕ) → m ≤ 0 → parent_count frame i at m ≡ 0
-      go zero h = refl
-      go (suc m) h = absurd (omega arith)
+  parents-end k count total h inv = let z : n - k ≡ 0 = omega arith in let v = rw z at inv in omega arith
 
-module _ (frame : List ℕ) (n i left mask : ℕ) where
-  pairing-more : 0 < left → pairing frame n i left mask ≡ first (column_pairing frame n i mask) (pairing frame n (i + 1) (left - 1) (mask / 2))
+module _ (frame : List ℕ) (n width i mask : ℕ) where
+  pairing-more : i < width → pairing frame n i (width - i) mask ≡ first (column_pairing frame n i mask) (pairing frame n (i + 1) (width - (i + 1)) (mask / 2))
   unfolding pairing
-  pairing-more h = go left h
-    where
-      go : (m : ℕ) → 0 < m → pairing frame n i m mask ≡ first (column_pairing frame n i mask) (pairing frame n (i + 1) (m - 1) (mask / 2))
-      go zero h = absurd (omega arith)
-      go (suc m) h =
-          let z : m ≡ suc m - 1 = omega arith in
-          ap (λ k. first (column_pairing frame n i mask) (pairing frame n (i + 1) k (mask / 2))) z
+  pairing-more h = let z : width - i ≡ suc (width - (i + 1)) = omega arith in rw z
 
-  pub pairing-stop : (found : ℕ) → 0 < left → found ≡ column_pairing frame n i mask → (found ≡ 0 → ⊥) → pairing frame n i left mask ≡ found
+  pub pairing-stop : (found : ℕ) → i < width → found ≡ column_pairing frame n i mask → (found ≡ 0 → ⊥) → pairing frame n i (width - i) mask ≡ found
   pairing-stop found h e f = pairing-more h ∙ first_some _ _ (λ z. f (e ∙ z)) ∙ sym e
 
-  pub pairing-go : (found : ℕ) → 0 < left → found ≡ column_pairing frame n i mask → found ≡ 0
-      → pairing frame n i left mask ≡ pairing frame n (i + 1) (left - 1) (mask / 2)
-  pairing-go found h e z = pairing-more h ∙ ap (λ k. first k (pairing frame n (i + 1) (left - 1) (mask / 2))) (sym e ∙ z) ∙ first-none _
+  pub pairing-go : i < width → 0 ≡ column_pairing frame n i mask → pairing frame n i (width - i) mask ≡ pairing frame n (i + 1) (width - (i + 1)) (mask / 2)
+  pairing-go h e = pairing-more h ∙ ap (λ k. first k (pairing frame n (i + 1) (width - (i + 1)) (mask / 2))) (sym e) ∙ first-none _
 
-  pub pairing-end : left ≤ 0 → pairing frame n i left mask ≡ 0
+  pub pairing-end : width ≤ i → pairing frame n i (width - i) mask ≡ 0
   unfolding pairing
-  pairing-end h = go left h
-    where
-      go : (m : ℕ) → m ≤ 0 → pairing frame n i m mask ≡ 0
-      go zero h = refl
-      go (suc m) h = absurd (omega arith)
+  pairing-end h = let z : width - i ≡ 0 = omega arith in rw z

@@ -74,7 +74,7 @@ module _ {A : Type 0} {size : ℕ} {r : Reader A} (s : Sized size r) where
 
   module _ (frame : List ℕ) (at : ℕ) where
     -- one and then the others
-    times-suc : (n : ℕ) → fault_at frame at (repeated (suc n) r) ≡ first (fault_at frame at r) (fault_at frame (at + size) (repeated n r))
+    pub times-suc : (n : ℕ) → fault_at frame at (repeated (suc n) r) ≡ first (fault_at frame at r) (fault_at frame (at + size) (repeated n r))
     unfolding fault_at
     times-suc n = sized-then s frame at _ _ (λ x. same x (repeated n r (drop (at + size) frame)))
       where

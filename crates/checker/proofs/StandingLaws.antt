@@ -3,10 +3,10 @@ use mathlib.Core.Path.{◌≡◌, refl, sym, ap, ◌∙◌}
 use mathlib.Core.Bool.{Bool, true, false, cond}
 use mathlib.Core.List.{List, [], ◌∷◌, ◌++◌}
 use mathlib.Core.Option.{Option, none, some}
-use Prim.Native.Nat.{ℕ}
+use Prim.Native.Nat.{ℕ, ◌≤◌, ◌<◌}
 use native.Mathlib.Omega.{arith}
-use lib.Dec.{leb}
-use borrow.Author.Tests.{leb-true, leb-false}
+use lib.Dec.{leb, ltb}
+use borrow.Author.Tests.{leb-true, leb-false, le-leb, lt-leb}
 use Rattle.value.proofs.Decides.{by-test}
 use Rattle.meaning.specs.Syntax.{Table, ForeignKey, View, Goal}
 use Rattle.meaning.proofs.Stacks.{length-snoc}
@@ -15,9 +15,50 @@ use Rattle.language.specs.Check.{check_frame, read_checked, Checked}
 use Rattle.language.specs.Frames.{frame}
 use Rattle.catalog.specs.FileIn.{goal_of}
 use Rattle.catalog.specs.declared.plan.Goal.{Goal as GoalHere}
-use Rattle.checker.specs.Standing.{Counts, start_progress, room_for, turn_fault, with_table, with_key, with_view, with_goal}
+use Rattle.checker.specs.Standing.{Counts, stage_number, start_progress, room_for, turn_fault, with_table, with_key, with_view, with_goal}
 use Rattle.checker.specs.declared.state.Progress.{Progress}
+use Rattle.checker.specs.declared.state.Stage.{Stage}
+use Rattle.checker.specs.declared.state.Stage.TheVariants.{Tables, Keys, Views, Goal as GoalStage, Ended}
 use Rattle.language.proofs.Turns.{draft, by_kind, TableTurn, KeyTurn, ViewTurn}
+
+-- ---- the turn of a kind, as the code finds it
+
+stage-some : (t : Stage) → 1 ≤ stage_number t
+stage-some Tables = omega arith
+stage-some Keys = omega arith
+stage-some Views = omega arith
+stage-some GoalStage = omega arith
+stage-some Ended = omega arith
+
+module _ (s : Progress) {t : Stage} where
+  pub room-keys : t ≡ Keys → ltb s.keys 16 ≡ room_for s (stage_number t)
+  unfolding room_for
+  room-keys e = rw e
+
+  pub room-goal : t ≡ GoalStage → true ≡ room_for s (stage_number t)
+  unfolding room_for
+  room-goal e = rw e
+
+pub room-other : (s : Progress) (t : Stage) → (t ≡ Keys → ⊥) → (t ≡ GoalStage → ⊥) → ltb s.relations 16 ≡ room_for s (stage_number t)
+unfolding room_for
+room-other s Tables k g = refl
+room-other s Keys k g = absurd (k refl)
+room-other s Views k g = refl
+room-other s GoalStage k g = absurd (g refl)
+room-other s Ended k g = refl
+
+module _ (s : Progress) (kind : ℕ) {n : ℕ} (e : n ≡ stage_of kind) where
+  pub turn-early : n < stage_number s.stage → 3 ≡ turn_fault s kind
+  unfolding turn_fault
+  turn-early h = rw (← e, lt-leb (stage_number s.stage) n h)
+
+  pub turn-room : stage_number s.stage ≤ n → (b : Bool) → b ≡ room_for s n → cond b 0 5 ≡ turn_fault s kind
+  unfolding turn_fault
+  turn-room h b q = rw (← e, le-leb (stage_number s.stage) n h, ← q)
+
+-- of no kind
+pub turn-unknown : (s : Progress) (kind : ℕ) → 0 ≡ stage_of kind → 3 ≡ turn_fault s kind
+turn-unknown s kind e = turn-early s kind e (stage-some s.stage)
 
 -- ---- the stage
 

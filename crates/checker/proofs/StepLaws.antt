@@ -24,14 +24,16 @@ use Rattle.catalog.specs.Arrays.{put_shape, Outside}
 use Rattle.catalog.proofs.ArrayLaws.{shape-length, shape-other}
 use Rattle.checker.specs.Standing.{Counts, DraftIn, OnlyRelation, Turned, Stepped, turn_fault}
 use Rattle.checker.specs.declared.state.Progress.{Progress}
-use Rattle.checker.specs.declared.step.Step.{Step}
+use Rattle.std.proofs.Common.{Result, Ok, Err}
+use Rattle.text.specs.Refusals.{number_of}
+use Rattle.text.specs.declared.refusal.Reason.{Reason}
+use Rattle.text.specs.declared.refusal.Reason.TheVariants.{Form}
+use Rattle.checker.specs.Faults.{fault_told}
+use Rattle.checker.proofs.FaultLaws.{number-some}
 use Rattle.checker.proofs.FitLaws.{fits_next}
 use Rattle.checker.proofs.StandingLaws.{turn-passed, turn-refused}
 use Rattle.language.proofs.Steps.{Taken, Looked, looked, whole-zero}
 use Rattle.language.proofs.Turns.{by_kind, stage-known}
-
-abbrev pub step_at : ℕ → Progress → Step
-step_at n s = record { fault = n; state = s }
 
 -- ---- what a frame that is taken adds
 
@@ -41,13 +43,6 @@ taken_of (Looked.next {i} t) q = (i, t, cc)
 
 reads_same : (d : Draft) (k j : ℕ) (bs cs : List ℕ) (m : Read Item) → k ∷ bs ≡ j ∷ cs → frame d j cs ≡ m → frame d k bs ≡ m
 reads_same d k j bs cs m e r = let p : k ≡ j = cc in let q : bs ≡ cs = cc in ap₂ (frame d) p q ∙ r
-
--- ---- one kind
-
-module _ (d : Draft) (k : ℕ) (f : List ℕ) where
-  pub body-zero : {i : Item} → frame d k (drop 1 f) ≡ Read.ok i [] → whole_fault d i ≡ 0 → body_fault d (frame d k) f ≡ 0
-  unfolding body_fault
-  body-zero r w = rw (r, w)
 
 -- ---- which numbers may change
 
@@ -63,29 +58,40 @@ only-stored {r} n kind width bound mask {shape} s o = record {
   ranges = o.before;
 }
 
+-- the same where the arrays' bytes stay
+pub only-ranges : {r : ℕ} (n : ℕ) {shape : List ℕ} {ends ends' : List ℤ} → Outside r n ends ends' → OnlyRelation r shape ends shape ends'
+only-ranges n o = record { shape_size = refl; bytes = λ k h. refl; ends-size = o.size; ranges = o.before }
+
 -- n is the fault of the frame's body
 abbrev pub Found : ℕ → List ℕ → Progress → List ℕ → List ℤ → ℕ → Type 0
 Found k f s shape ends n = (d : Draft) → DraftIn d s shape ends → in_order d k ≡ true → has_room d k ≡ true → n ≡ body_fault d (frame d k) f
 
-pub turned-refused : {k : ℕ} {f : List ℕ} {s : Progress} {shape : List ℕ} {ends : List ℤ} (n : ℕ) {s' : Progress}
-    → Found k f s shape ends n → (n ≡ 0 → ⊥) → Turned k f s shape ends shape ends (step_at n s')
-turned-refused {k} {f} n found nz =
-    record { only = only_none; fault = found; next = λ d i h o r reads w. absurd (nz (found d h o r ∙ body-zero d k f reads w)) }
+-- an answer that refuses, and one that does not
+module _ {k : ℕ} {f : List ℕ} {s : Progress} {shape : List ℕ} {ends : List ℤ} {shape' : List ℕ} {ends' : List ℤ} where
+  pub turned-refused : (r : Result Progress Reason) (e : Reason) → r ≡ Err e → OnlyRelation s.relations shape ends shape' ends' → Found k f s shape ends (number_of e)
+      → Turned k f s shape ends shape' ends' r
+  turned-refused r e p only found = record { only = only; fault = λ d h o q. ap fault_told p ∙ found d h o q; next = λ d i t w. absurd (cc) }
+
+  pub turned-done : (s' : Progress) → OnlyRelation s.relations shape ends shape' ends' → Found k f s shape ends 0
+      → ((d : Draft) (i : Item) → DraftIn d s shape ends → in_order d k ≡ true → has_room d k ≡ true → frame d k (drop 1 f) ≡ Read.ok i []
+      → whole_fault d i ≡ 0 → Counts (added d i) s' × Catalogued (added d i) shape' ends')
+      → Turned k f s shape ends shape' ends' (Ok s')
+  turned-done s' only found next = record {
+    only = only;
+    fault = found;
+    next = λ d i t w h o q reads whole. let e : s' ≡ t = cc in subst (λ (x : Progress). Counts (added d i) x × Catalogued (added d i) shape' ends') e (next d i h o q reads whole);
+  }
 
 -- ---- any frame
 
 module _ {f : List ℕ} {s : Progress} {shape : List ℕ} {ends : List ℤ} where
-  stopped : (n : ℕ) (s' : Progress) → ((d : Draft) → DraftIn d s shape ends → check_frame d f ≡ Checked.fault n)
-      → Stepped f s shape ends shape ends (step_at n s')
-  stopped n s' e = record {
-    only = only_none;
-    fault = λ d h. sym (ap checked_fault (e d h));
-    next = λ d g h q. let both : Checked.fault n ≡ Checked.next g = sym (e d h) ∙ q in let z : ◌≡◌ {A = ℕ} 0 1 = cc in absurd (omega arith);
-  }
+  stopped : (r : Result Progress Reason) (e : Reason) → r ≡ Err e → ((d : Draft) → DraftIn d s shape ends → check_frame d f ≡ Checked.fault (number_of e))
+      → Stepped f s shape ends shape ends r
+  stopped r e p c = record { only = only_none; fault = λ d h. ap fault_told p ∙ sym (ap checked_fault (c d h)); next = λ d g t w. absurd (cc) }
 
-  pub stepped-empty : (s' : Progress) → length f ≡ 0 → Stepped f s shape ends shape ends (step_at 4 s')
+  pub stepped-empty : length f ≡ 0 → Stepped f s shape ends shape ends (Err Form)
   unfolding check_frame
-  stepped-empty s' e = stopped 4 s' (λ d h. at f e d)
+  stepped-empty e = stopped (Err Form) Form refl (λ d h. at f e d)
     where
       at : (f : List ℕ) → length f ≡ 0 → (d : Draft) → check_frame d f ≡ Checked.fault 4
       at [] e d = refl
@@ -102,26 +108,26 @@ unfolding check_frame
 body-checked f some d o r = ap (check_frame d) (cut f some) ∙ rw (o, r)
 
 module _ {f : List ℕ} {s : Progress} {shape : List ℕ} {ends : List ℤ} (some : 0 < length f) where
-  pub stepped-turn : (n : ℕ) (s' : Progress) → n ≡ turn_fault s (get_or f 0 0) → (n ≡ 0 → ⊥) → Stepped f s shape ends shape ends (step_at n s')
-  stepped-turn n s' e nz = stopped n s'
-      (λ d h. ap (check_frame d) (cut f some) ∙ turn-refused h.counts (get_or f 0 0) (drop 1 f) (λ z. nz (e ∙ z)) ∙ ap Checked.fault (sym e))
+  pub stepped-turn : (r : Result Progress Reason) (e : Reason) → r ≡ Err e → number_of e ≡ turn_fault s (get_or f 0 0) → Stepped f s shape ends shape ends r
+  stepped-turn r e p q = stopped r e p
+      (λ d h. ap (check_frame d) (cut f some) ∙ turn-refused h.counts (get_or f 0 0) (drop 1 f) (λ z. number-some e (q ∙ z)) ∙ ap Checked.fault (sym q))
 
-  pub stepped-body : (shape' : List ℕ) (ends' : List ℤ) (n : ℕ) (r : Step) → n ≡ turn_fault s (get_or f 0 0) → n ≡ 0
+  pub stepped-body : (shape' : List ℕ) (ends' : List ℤ) (r : Result Progress Reason) → 0 ≡ turn_fault s (get_or f 0 0)
       → Turned (get_or f 0 0) f s shape ends shape' ends' r → Stepped f s shape ends shape' ends' r
   unfolding body_fault
-  stepped-body shape' ends' n r e z t = record {
+  stepped-body shape' ends' r z t = record {
     only = t.only;
     fault = λ d h.
-        let p = turn-passed h.counts (get_or f 0 0) (sym e ∙ z) in
+        let p = turn-passed h.counts (get_or f 0 0) (sym z) in
         t.fault d h p.0 p.1 ∙ ap checked_fault (sym (body-checked f some d p.0 p.1));
-    next = λ d g h q.
+    next = λ d g u w h q.
         let k = get_or f 0 0 in
-        let p = turn-passed h.counts k (sym e ∙ z) in
+        let p = turn-passed h.counts k (sym z) in
         let (i, taken, same) = taken_of (looked d f) q in
         let reads : frame d k (drop 1 f) ≡ Read.ok i [] = reads_same d k taken.kind (drop 1 f) taken.bytes (Read.ok i []) (sym (cut f some) ∙ taken.cut) taken.reads in
-        let (counts, catalogued) = t.next d i h p.0 p.1 reads (whole-zero d i taken.whole) in
+        let (counts, catalogued) = t.next d i u w h p.0 p.1 reads (whole-zero d i taken.whole) in
         record {
-          counts = subst (λ (x : Draft). Counts x r.state) same counts;
+          counts = subst (λ (x : Draft). Counts x u) same counts;
           catalogued = subst (λ (x : Draft). Catalogued x shape' ends') same catalogued;
           fits = fits_next d g f h.fits q;
         };
@@ -129,7 +135,7 @@ module _ {f : List ℕ} {s : Progress} {shape : List ℕ} {ends : List ℤ} (som
 
 -- ---- any kind
 
-pub turned_same : {f : List ℕ} {s : Progress} {shape : List ℕ} {ends : List ℤ} {shape' : List ℕ} {ends' : List ℤ} {r : Step} {k j : ℕ} → k ≡ j
+pub turned_same : {f : List ℕ} {s : Progress} {shape : List ℕ} {ends : List ℤ} {shape' : List ℕ} {ends' : List ℤ} {r : Result Progress Reason} {k j : ℕ} → k ≡ j
     → Turned j f s shape ends shape' ends' r → Turned k f s shape ends shape' ends' r
 turned_same {f} {s} {shape} {ends} {shape'} {ends'} {r} e t = subst (λ (i : ℕ). Turned i f s shape ends shape' ends' r) (sym e) t
 
@@ -143,7 +149,7 @@ set-kind k a b = by-test (eqb k 5)
     (λ t. rw t (eqb-true k 5 t))
     (λ t. let n = eqb-false k 5 t in let e : k ≡ 6 = omega (arith, n) in rw t e)
 
-module _ {f : List ℕ} {s : Progress} {shape : List ℕ} {ends : List ℤ} {shape' : List ℕ} {ends' : List ℤ} {r : Step} where
+module _ {f : List ℕ} {s : Progress} {shape : List ℕ} {ends : List ℤ} {shape' : List ℕ} {ends' : List ℤ} {r : Result Progress Reason} where
   pub turned-view : (k : ℕ) → 1 ≤ k → (k ≡ 1 → ⊥) → (k ≡ 2 → ⊥) → k < 5 → Turned (own_kind (eqb k 4)) f s shape ends shape' ends' r → Turned k f s shape ends shape' ends' r
   turned-view k a n m b t = turned_same (own-kind k (omega (arith, n, m)) b) t
 
@@ -159,12 +165,12 @@ seven = by_kind (λ k. (1 ≤ k → k ≤ 6 → ⊥) → k ≡ 7) (λ n. early 1
     early : (k : ℕ) → (1 ≤ k → k ≤ 6 → ⊥) → 1 ≤ k → k ≤ 6 → k ≡ 7
     early k n a b = absurd (n a b)
 
-pub turned-other : {f : List ℕ} {s : Progress} {shape : List ℕ} {ends : List ℤ} {shape' : List ℕ} {ends' : List ℤ} {r : Step} (k : ℕ)
+pub turned-other : {f : List ℕ} {s : Progress} {shape : List ℕ} {ends : List ℤ} {shape' : List ℕ} {ends' : List ℤ} {r : Result Progress Reason} (k : ℕ)
     → (1 ≤ k → k ≤ 6 → ⊥) → Turned 7 f s shape ends shape' ends' r → Turned k f s shape ends shape' ends' r
 turned-other {f} {s} {shape} {ends} {shape'} {ends'} {r} k a t = record {
   only = t.only;
   fault = λ x h o p. let q = seven k (stage-known x k o) a in
-      subst (λ (j : ℕ). r.fault ≡ body_fault x (frame x j) f) (sym q) (t.fault x h (subst (λ (j : ℕ). in_order x j ≡ true) q o) (subst (λ (j : ℕ). has_room x j ≡ true) q p));
-  next = λ x i h o p reads w. let q = seven k (stage-known x k o) a in
-      t.next x i h (subst (λ (j : ℕ). in_order x j ≡ true) q o) (subst (λ (j : ℕ). has_room x j ≡ true) q p) (subst (λ (j : ℕ). frame x j (drop 1 f) ≡ Read.ok i []) q reads) w;
+      subst (λ (j : ℕ). fault_told r ≡ body_fault x (frame x j) f) (sym q) (t.fault x h (subst (λ (j : ℕ). in_order x j ≡ true) q o) (subst (λ (j : ℕ). has_room x j ≡ true) q p));
+  next = λ x i u v h o p reads w. let q = seven k (stage-known x k o) a in
+      t.next x i u v h (subst (λ (j : ℕ). in_order x j ≡ true) q o) (subst (λ (j : ℕ). has_room x j ≡ true) q p) (subst (λ (j : ℕ). frame x j (drop 1 f) ≡ Read.ok i []) q reads) w;
 }

@@ -1,7 +1,7 @@
 -- The faults of the bytes of a view, part by part.
 --     times-then                   bytes of one test, and what follows them
 --     fault-next, fault-stop       what follows a part that ended, and one that did not
---     Relations, Repeated          a repetition, as a loop goes through it
+--     Repeated                     a repetition, as a loop goes through it
 --     select-next .. groups-stop   the parts behind the counts
 -- Assumes nothing.
 use Rattle.language.proofs.Turns.{count-schemas}
@@ -164,37 +164,6 @@ module _ (frame : List ℕ) (count : ℕ) where
       ∙ ap (λ a. first a (fault_at frame (2 + n) (f (bytes_at frame 2 n)))) (sym froms-fault)
       ∙ ap (λ j. first (fault_at frame 1 (froms_under count)) (fault_at frame j (f (bytes_at frame 2 n)))) e
 
--- the relations one by one, from the last: those from the i-th on have the fault
-pub record Relations (frame : List ℕ) (count n i fault : ℕ) : Type 0 where
-  pub few : i ≤ n
-  pub same : fault ≡ fault_at frame (i + 2) (repeated (n - i) (byte_if 6 (under count)))
-
-module _ (frame : List ℕ) (count n : ℕ) where
-  pub relations-holds : {i : ℕ} → i ≡ n → Relations frame count n i 0
-  unfolding fault_at
-  relations-holds {i} e =
-      let z : n - i ≡ 0 = omega arith in
-      record { few = omega arith; same = rw z }
-
-  module _ {i fault : ℕ} (h : Relations frame count n i fault) where
-    pub relations-again : {b r : ℕ} → 0 < i → b ≡ fault_at frame (i - 1 + 2) (byte_if 6 (under count)) → r ≡ first b fault
-        → Relations frame count n (i - 1) r
-    relations-again l p q =
-        let m = byte_if 6 (under count) in
-        let e : n - (i - 1) ≡ suc (n - i) = omega arith in
-        let k : i - 1 + 2 + 1 ≡ i + 2 = omega arith in
-        let t = times-first frame 6 (under count) (λ z. omega arith) (i - 1 + 2) (n - i) in
-        record {
-          few = omega arith;
-          same = rw (e, t, k) (cc);
-        }
-
-    pub relations-returns : i ≡ 0 → fault ≡ fault_at frame 2 (repeated n (byte_if 6 (under count)))
-    relations-returns e =
-        let k : n - i ≡ n = omega arith in
-        let l : i + 2 ≡ 2 = omega arith in
-        h.same ∙ rw (k, l)
-
 -- ---- the widths of the from items
 
 pub widths-are : {d : Draft} {shape : List ℕ} {ends : List ℤ} → Catalogued d shape ends → (fs : List ℕ) → map (width d) fs ≡ map (width_at shape) fs
@@ -228,31 +197,33 @@ ends-times : {A : Type 0} {m : Reader A} → Ends m → (n : ℕ) → Ends (repe
 ends-times e zero = ends-done []
 ends-times e (suc n) = ends_more e (ends-times e n)
 
--- n of the same from `at` on, of which `left` are left from `next` on
-pub record Repeated {A : Type 0} (frame : List ℕ) (m : Reader A) (at n next left : ℕ) : Type 0 where
-  pub same : skipped frame at (repeated n m) ≡ skipped frame next (repeated left m)
+-- n of the same from `at` on, of which those behind the first k start at `next`
+pub record Repeated {A : Type 0} (frame : List ℕ) (m : Reader A) (at n next k : ℕ) : Type 0 where
+  pub same : skipped frame at (repeated n m) ≡ skipped frame next (repeated (n - k) m)
   pub inside : next ≤ length frame
 
 module _ {A : Type 0} (frame : List ℕ) {m : Reader A} (s : Field m) (at n : ℕ) where
-  pub repeat-holds : at ≤ length frame → Repeated frame m at n at n
-  repeat-holds h = record { same = refl; inside = h }
+  pub repeat-holds : at ≤ length frame → Repeated frame m at n at 0
+  repeat-holds h = let e : n - 0 ≡ n = omega arith in record { same = rw e; inside = h }
 
-  module _ {next left : ℕ} (i : Repeated frame m at n next left) where
-    pub repeat-again : {e : ℕ} {r : FormEnd} → 0 < left → r ≡ skipped frame next m → r ≡ FormEnd.next e → Repeated frame m at n e (left - 1)
+  module _ {next k : ℕ} (i : Repeated frame m at n next k) where
+    pub repeat-again : {e : ℕ} {r : FormEnd} → k < n → r ≡ skipped frame next m → r ≡ FormEnd.next e → Repeated frame m at n e (k + 1)
     repeat-again h p q =
-        let k : left ≡ suc (left - 1) = omega arith in
+        let l : n - k ≡ suc (n - (k + 1)) = omega arith in
         record {
-          same = i.same ∙ ap (λ j. skipped frame next (repeated j m)) k ∙ then-more frame s next p q (repeated (left - 1) m);
+          same = i.same ∙ ap (λ j. skipped frame next (repeated j m)) l ∙ then-more frame s next p q (repeated (n - (k + 1)) m);
           inside = (field-lands frame s next _ (sym p ∙ q)).inside;
         }
 
-    pub repeat-stops : {e : ℕ} {r : FormEnd} → 0 < left → r ≡ skipped frame next m → r ≡ FormEnd.refused e → skipped frame at (repeated n m) ≡ FormEnd.refused e
+    pub repeat-stops : {e : ℕ} {r : FormEnd} → k < n → r ≡ skipped frame next m → r ≡ FormEnd.refused e → skipped frame at (repeated n m) ≡ FormEnd.refused e
     repeat-stops h p q =
-        let k : left ≡ suc (left - 1) = omega arith in
-        i.same ∙ ap (λ j. skipped frame next (repeated j m)) k ∙ then-stop frame m _ next _ p q
+        let l : n - k ≡ suc (n - (k + 1)) = omega arith in
+        i.same ∙ ap (λ j. skipped frame next (repeated j m)) l ∙ then-stop frame m _ next _ p q
 
-    pub repeat-ends : left ≡ 0 → skipped frame at (repeated n m) ≡ FormEnd.next next
-    repeat-ends h = i.same ∙ ap (λ j. skipped frame next (repeated j m)) h ∙ next-is frame (done []) next next i.inside refl
+    pub repeat-ends : n ≤ k → skipped frame at (repeated n m) ≡ FormEnd.next next
+    repeat-ends h =
+        let l : n - k ≡ 0 = omega arith in
+        i.same ∙ ap (λ j. skipped frame next (repeated j m)) l ∙ next-is frame (done []) next next i.inside refl
 
   pub repeat-lands : {next : ℕ} {r : FormEnd} → at ≤ length frame → r ≡ skipped frame at (repeated n m) → r ≡ FormEnd.next next → Landed frame (repeated n m) at next
   repeat-lands h p q = lands frame (ends-times s.ends n) at _ h (sym p ∙ q)

@@ -1,5 +1,7 @@
 -- The rules on a view's frame: what the loop over the select expressions has found, and from the answers of the walks the answer for the
 -- frame that its bytes are read as. Assumes nothing.
+use Rattle.std.specs.Prelude.{Option, None, Some}
+use Rattle.range.specs.declared.Range.{Range}
 use Rattle.language.proofs.Turns.{count-schemas}
 use Rattle.meaning.proofs.Listed.{listed_same, map-listed}
 use mathlib.Core.Path.{◌≡◌, refl, sym, ap, ap₂, subst, ◌∙◌}
@@ -16,8 +18,6 @@ use borrow.Author.Tests.{leb-true}
 use Rattle.value.specs.Bag.{All}
 use Rattle.value.proofs.Decides.{by-test, and_parts}
 use Rattle.value.proofs.Values.{all_map}
-use Rattle.range.specs.declared.Ranged.{Ranged}
-use Rattle.range.specs.declared.Ranged.TheVariants.{Within, Beyond}
 use Rattle.meaning.specs.Lists.{all}
 use Rattle.meaning.specs.Syntax.{Expr, Cond, Place, View}
 use Rattle.language.specs.Reading.{open_items, read_e, read_c, Read}
@@ -29,6 +29,7 @@ use Rattle.catalog.specs.Frames.{froms_in, parts_after}
 use Rattle.catalog.specs.declared.frames.Parts.{Parts}
 use Rattle.catalog.specs.Items.{relations_in, widths_in, open_in, open_ranges_in}
 use Rattle.bounds.specs.Walk.{places_from, permitted_of, ranged_e, is_within, SizesE, TestsC}
+use Rattle.bounds.specs.declared.Part.TheVariants.{Grouped}
 use Rattle.bounds.specs.declared.Rule.{Rule}
 use Rattle.bounds.specs.declared.Sized.{Sized}
 use Rattle.bounds.specs.declared.Tested.{Tested}
@@ -38,6 +39,9 @@ use Rattle.language.specs.Frames.{repeated, field, from_list, place_field, basic
 use Rattle.checker.specs.Catalogued.{Catalogued}
 use Rattle.checker.specs.ViewFaults.{own_frame}
 use Rattle.checker.specs.ViewRules.{factor_at, product_of, ProductBound, put_ranged, view_fault, plain_rule, EntryRoom, Selects, RuledAs, Tail, OpeningOf, Rules, RulesFrom}
+use Rattle.std.proofs.Common.{Result, Ok}
+use Rattle.text.specs.declared.refusal.Reason.{Reason}
+use Rattle.checker.specs.Faults.{fault_told}
 use Rattle.checker.specs.declared.view_rules.Ruled.{Ruled}
 use Rattle.checker.specs.declared.view_rules.Opening.{Opening}
 use Rattle.catalog.proofs.ArrayLaws.{put-length, put_next, put-outside, outside-same, outside_wider, outside-more, outside-ranges}
@@ -49,14 +53,14 @@ use Rattle.checker.proofs.ViewFields.{parts_of, drop-as, times_snoc, byte-read, 
 
 -- ---- the answer for a frame whose from list is `items` and whose other parts are P
 
-record BasicOf (frame : List ℕ) (P : Parts) (items shape : List ℕ) (ends : List ℤ) (r : ℕ) (ends' : List ℤ) (a : Ruled) : Type 0 where
+record BasicOf (frame : List ℕ) (P : Parts) (items shape : List ℕ) (ends : List ℤ) (r : ℕ) (ends' : List ℤ) (a : Result Ruled Reason) : Type 0 where
   ruled : EntryRoom shape ends items r → length items ≤ 3 → P.width ≤ 8 → (w : Cond) (es : List Expr) (mid rest : List ℕ)
       → read_c (open_in shape r items) (drop P.body frame) ≡ Read.ok w mid
       → repeated P.width (read_e (open_in shape r items)) mid ≡ Read.ok es rest
       → let I = open_ranges_in shape ends r items (product_of shape items) in
       RuledAs (allowed_c in_where w && all (allowed_e in_basic) es) (within_c I w && all (within_e I) es) es I r ends ends' a
 
-record GroupedOf (frame : List ℕ) (P : Parts) (items shape : List ℕ) (ends : List ℤ) (r : ℕ) (ends' : List ℤ) (a : Ruled) : Type 0 where
+record GroupedOf (frame : List ℕ) (P : Parts) (items shape : List ℕ) (ends : List ℤ) (r : ℕ) (ends' : List ℤ) (a : Result Ruled Reason) : Type 0 where
   ruled : EntryRoom shape ends items r → length items ≤ 3 → P.width ≤ 8 → (w : Cond) (gs : List Place) (h : Cond) (es : List Expr)
       (mid mid' mid'' rest : List ℕ)
       → read_c (open_in shape r items) (drop P.body frame) ≡ Read.ok w mid
@@ -97,15 +101,15 @@ open-same : (shape : List ℕ) {r : ℕ} {ends ends' : List ℤ} → Outside r 8
 open-same shape {r} {ends} {ends'} o w fs h R =
     rw (items-same shape o w fs h, listed_same (ranges_in shape ends') (ranges_in shape ends) r (λ i l. outside-ranges o i (width_at shape i) (λ e. omega arith) (w i)))
 
-ranged-outside : (ends : List ℤ) (r c : ℕ) (x : Ranged) → Outside r (c + 1) ends (put_ranged ends r c x)
+ranged-outside : (ends : List ℤ) (r c : ℕ) (x : Option Range) → Outside r (c + 1) ends (put_ranged ends r c x)
 unfolding put_ranged
-ranged-outside ends r c (Within x) = put-outside ends r c x (c + 1) (omega arith)
-ranged-outside ends r c Beyond = outside-same r (c + 1) ends
+ranged-outside ends r c (Some x) = put-outside ends r c x (c + 1) (omega arith)
+ranged-outside ends r c None = outside-same r (c + 1) ends
 
-pub ranged-length : (ends : List ℤ) (r c : ℕ) (x : Ranged) → length (put_ranged ends r c x) ≡ length ends
+pub ranged-length : (ends : List ℤ) (r c : ℕ) (x : Option Range) → length (put_ranged ends r c x) ≡ length ends
 unfolding put_ranged
-ranged-length ends r c (Within x) = put-length ends r c x
-ranged-length ends r c Beyond = refl
+ranged-length ends r c (Some x) = put-length ends r c x
+ranged-length ends r c None = refl
 
 ranged-put : (ends : List ℤ) (r c : ℕ) (I : OpenRanges) (e : Expr) → within_e I e ≡ true
     → put_ranged ends r c (ranged_e I e) ≡ put_range ends r c (range I e)
@@ -174,31 +178,31 @@ module _ (frame : List ℕ) (start : ℕ) (items shape : List ℕ) (ends : List 
 
 -- ---- the answer
 
-pub tail-ruled : (frame : List ℕ) (head : Tested) (count : ℕ) (items shape : List ℕ) (ends : List ℤ) (r : ℕ) (rule : Rule) (ends' : List ℤ) (a : Ruled)
+pub tail-ruled : (frame : List ℕ) (head : Tested) (count : ℕ) (items shape : List ℕ) (ends : List ℤ) (r : ℕ) (rule : Rule) (ends' : List ℤ) (a : Result Ruled Reason)
     (allowed within : Bool) → Selects frame head.next count items shape ends r rule ends' allowed within
-    → a.fault ≡ view_fault (head.allowed && allowed) rule.bound (head.within && within) → a.bound ≡ rule.bound % 256 → a.width ≡ count
+    → fault_told a ≡ view_fault (head.allowed && allowed) rule.bound (head.within && within)
+    → ((x : Ruled) → a ≡ Ok x → x ≡ record { bound = rule.bound % 256; width = count })
     → Tail frame head count items shape ends r rule ends' a
-tail-ruled frame head count items shape ends r rule ends' a allowed within s f b w = record {
-  outside = rw w s.outside;
+tail-ruled frame head count items shape ends r rule ends' a allowed within s f w = record {
+  outside = s.outside;
+  width = λ x e. ap (λ (y : Ruled). y.width) (w x e);
   ruled = λ room l es rest h.
       let (p, q, g) = s.selects room l es rest h in
       record {
         fault = f ∙ ap₂ (λ u v. view_fault (head.allowed && u) rule.bound (head.within && v)) p q;
-        bound = b;
-        narrow = rw w l;
         outside = outside_wider l s.outside;
-        ranges = λ t. rw w (g (q ∙ (and_parts head.within _ t).1));
+        told = λ x e. rw (w x e) (refl, l, λ t. g (q ∙ (and_parts head.within _ t).1));
       };
 }
 
-ruled-as : {A A' W W' : Bool} {es : List Expr} {I : OpenRanges} {r : ℕ} {ends ends' : List ℤ} {a : Ruled} → A ≡ A' → W ≡ W'
+ruled-as : {A A' W W' : Bool} {es : List Expr} {I : OpenRanges} {r : ℕ} {ends ends' : List ℤ} {a : Result Ruled Reason} → A ≡ A' → W ≡ W'
     → RuledAs A W es I r ends ends' a → RuledAs A' W' es I r ends ends' a
 ruled-as {es = es} {I = I} {r = r} {ends = ends} {ends' = ends'} {a = a} p q x = rw (← p, ← q) x
 
 abbrev pub grouped_rule : ℕ → ℕ → ℕ → Rule
-grouped_rule bound places g = record { bound = bound; grouped = true; filter = false; places = places; count = g }
+grouped_rule bound places g = record { bound = bound; part = Grouped places g }
 
-module _ (frame : List ℕ) (P : Parts) (items shape : List ℕ) (ends : List ℤ) (r : ℕ) (ends' : List ℤ) (a : Ruled) (bound : ℕ) (w' : Tested)
+module _ (frame : List ℕ) (P : Parts) (items shape : List ℕ) (ends : List ℤ) (r : ℕ) (ends' : List ℤ) (a : Result Ruled Reason) (bound : ℕ) (w' : Tested)
     (product : ProductBound shape items bound) (t : TestsC frame P.body items shape ends (plain_rule bound true) w') where
   abbrev I : ℕ → OpenRanges
   I = open_ranges_in shape ends r items
@@ -259,9 +263,9 @@ six : {fs l : List ℕ} → fs ≡ l → length fs ≤ 3 → length l ≤ 6
 six e h = omega (arith, ap length e)
 
 -- what `Rules` says of one draft and one view
-record Ruling (d : Draft) (r : ℕ) (shape : List ℕ) (ends' : List ℤ) (a : Ruled) (q : View) : Type 0 where
-  fault : a.fault ≡ whole_fault d (Item.view q)
-  entered : whole_fault d (Item.view q) ≡ 0 → Catalogued (added d (Item.view q)) (put_shape shape r 2 a.width a.bound 0) ends'
+record Ruling (d : Draft) (r : ℕ) (shape : List ℕ) (ends' : List ℤ) (a : Result Ruled Reason) (q : View) : Type 0 where
+  fault : fault_told a ≡ whole_fault d (Item.view q)
+  entered : (x : Ruled) → a ≡ Ok x → whole_fault d (Item.view q) ≡ 0 → Catalogued (added d (Item.view q)) (put_shape shape r 2 x.width x.bound 0) ends'
 
 module _ (d : Draft) {shape : List ℕ} {ends : List ℤ} (c : Catalogued d shape ends) where
   ranges-are : (fs : List ℕ) → item_ranges (schemas_of d) fs ≡ items_in shape ends fs
@@ -285,19 +289,20 @@ module _ (d : Draft) {shape : List ℕ} {ends : List ℤ} (c : Catalogued d shap
     room_for : (fs : List ℕ) → All (λ i. i < relation_count d) fs → EntryRoom shape ends fs r
     room_for fs h = record { place = l; size = c.ends-size; widths = c.widths; earlier = all_map (λ x k. omega arith) h }
 
-    ruling-of : (ends' : List ℤ) (a : Ruled) (q : View) (A W : Bool) (es : List Expr) (I : OpenRanges)
+    ruling-of : (ends' : List ℤ) (a : Result Ruled Reason) (q : View) (A W : Bool) (es : List Expr) (I : OpenRanges)
         → whole_fault d (Item.view q) ≡ view_fault A I.bound W → view_schema (schemas_of d) q ≡ record { bound = I.bound; ranges = map (range I) es }
         → RuledAs A W es I r ends ends' a → Ruling d r shape ends' a q
     ruling-of ends' a q A W es I f v x = record {
       fault = x.fault ∙ sym f;
-      entered = λ z.
+      entered = λ y w z.
           let (small, t) = no-fault A I.bound W (sym f ∙ z) in
-          let b : I.bound ≡ a.bound = omega (arith, x.bound) in
-          view-entered d q r 2 a.width a.bound 0 shape ends (put_shape shape r 2 a.width a.bound 0) ends' c e l x.narrow refl x.outside
-          (v ∙ ap₂ (λ k rs. record { bound = k; ranges = rs }) b (sym (x.ranges t)));
+          let (bound, narrow, ranges) = x.told y w in
+          let b : I.bound ≡ y.bound = omega (arith, bound) in
+          view-entered d q r 2 y.width y.bound 0 shape ends (put_shape shape r 2 y.width y.bound 0) ends' c e l narrow refl x.outside
+          (v ∙ ap₂ (λ k rs. record { bound = k; ranges = rs }) b (sym (ranges t)));
     }
 
-    module _ (ends' : List ℤ) (a : Ruled) (q : View) (frame : List ℕ) (P : Parts) (items : List ℕ) (list : length (froms_in frame) ≤ 6 → items ≡ froms_in frame) where
+    module _ (ends' : List ℤ) (a : Result Ruled Reason) (q : View) (frame : List ℕ) (P : Parts) (items : List ℕ) (list : length (froms_in frame) ≤ 6 → items ≡ froms_in frame) where
       basic-ruling : P ≡ parts_of false frame → BasicOf frame P items shape ends r ends' a → basic_frame d (drop 1 frame) ≡ Read.ok (Item.view q) []
           → Ruling d r shape ends' a q
       unfolding view_fault parts_after
@@ -348,7 +353,7 @@ module _ (d : Draft) {shape : List ℕ} {ends : List ℤ} (c : Catalogued d shap
 -- ---- the whole frame
 
 -- from what the frame begins with and the answer for the rest
-module _ (frame : List ℕ) (r : ℕ) (shape : List ℕ) (ends ends' : List ℤ) (a : Ruled) (o : Opening) where
+module _ (frame : List ℕ) (r : ℕ) (shape : List ℕ) (ends ends' : List ℤ) (a : Result Ruled Reason) (o : Opening) where
   abbrev froms : List ℕ
   froms = relations_in o.items
 
@@ -358,9 +363,10 @@ module _ (frame : List ℕ) (r : ℕ) (shape : List ℕ) (ends ends' : List ℤ)
     rules = λ O.
         let B = basic-ruled frame o.parts froms shape ends r ends' a o.bound o.filter O.product O.tested rule re s in
         record {
-          outside = s.outside;
+          outside = subst (λ (n : ℕ). Outside r n ends ends') (ap (λ (p : Parts). p.width) O.parts_are) s.outside;
+          width = λ x e. s.width x e ∙ ap (λ (p : Parts). p.width) O.parts_are;
           fault = λ d q c e l h. (basic-ruling d c r e l ends' a q frame o.parts froms O.froms O.parts_are B h).fault;
-          entered = λ d q c e l h. (basic-ruling d c r e l ends' a q frame o.parts froms O.froms O.parts_are B h).entered;
+          entered = λ d q x w c e l h. (basic-ruling d c r e l ends' a q frame o.parts froms O.froms O.parts_are B h).entered x w;
         };
   }
 
@@ -372,13 +378,14 @@ module _ (frame : List ℕ) (r : ℕ) (shape : List ℕ) (ends ends' : List ℤ)
     rules = λ O.
         let B = grouped-ruled frame o.parts froms shape ends r ends' a o.bound o.filter O.product O.tested places h' head he at u s in
         record {
-          outside = s.outside;
+          outside = subst (λ (n : ℕ). Outside r n ends ends') (ap (λ (p : Parts). p.width) O.parts_are) s.outside;
+          width = λ x e. s.width x e ∙ ap (λ (p : Parts). p.width) O.parts_are;
           fault = λ d q c e l h. (grouped-ruling d c r e l ends' a q frame o.parts froms O.froms O.parts_are B (grouped-read d frame q h)).fault;
-          entered = λ d q c e l h. (grouped-ruling d c r e l ends' a q frame o.parts froms O.froms O.parts_are B (grouped-read d frame q h)).entered;
+          entered = λ d q x w c e l h. (grouped-ruling d c r e l ends' a q frame o.parts froms O.froms O.parts_are B (grouped-read d frame q h)).entered x w;
         };
   }
 
-pub rules-of : {frame : List ℕ} {r : ℕ} {shape : List ℕ} {ends ends' : List ℤ} {a : Ruled} {o : Opening} {grouped b : Bool} → grouped ≡ b → OpeningOf grouped frame shape ends o
-    → RulesFrom b o frame r shape ends ends' a → Rules (own_frame grouped) frame r shape ends ends' a
+pub rules-of : {frame : List ℕ} {r : ℕ} {shape : List ℕ} {ends ends' : List ℤ} {a : Result Ruled Reason} {o : Opening} {grouped b : Bool} → grouped ≡ b → OpeningOf grouped frame shape ends o
+    → RulesFrom b o frame r shape ends ends' a → Rules grouped frame r shape ends ends' a
 rules-of {frame} {r} {shape} {ends} {ends'} {a} {o} e O R =
-    subst (λ (g : Bool). Rules (own_frame g) frame r shape ends ends' a) (sym e) (R.rules (subst (λ (g : Bool). OpeningOf g frame shape ends o) e O))
+    subst (λ (g : Bool). Rules g frame r shape ends ends' a) (sym e) (R.rules (subst (λ (g : Bool). OpeningOf g frame shape ends o) e O))

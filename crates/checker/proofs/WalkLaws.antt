@@ -23,7 +23,12 @@ use Rattle.checker.specs.Catalogued.{checked_fault}
 use Rattle.checker.specs.Standing.{DraftIn, Stepped, start_progress}
 use Rattle.checker.specs.Plans.{WalkedTo, start_from, frame_number, put_starts, StartsPut}
 use Rattle.checker.specs.declared.state.Progress.{Progress}
-use Rattle.checker.specs.declared.step.Step.{Step}
+use Rattle.std.proofs.Common.{Result, Ok, Err}
+use Rattle.text.specs.Refusals.{number_of}
+use Rattle.text.specs.declared.refusal.Reason.{Reason}
+use Rattle.text.specs.declared.refusal.Refusal.{Refusal}
+use Rattle.checker.specs.Faults.{fault_told}
+use Rattle.checker.proofs.FaultLaws.{number-some}
 use Rattle.language.proofs.Steps.{Looked, looked}
 
 no : {A : Type 0} → ◌≡◌ {A = ℕ} 0 1 → A
@@ -77,25 +82,25 @@ module _ (packed : List ℕ) (s : Progress) (shape : List ℕ) (ends : List ℤ)
     unfolding reach onwards
     first_step = h.same ∙ ap (λ r. reach r h.draft (suc line)) front.split
 
-    module _ (shape' : List ℕ) (ends' : List ℤ) (r : Step) (t : Stepped f s shape ends shape' ends' r) where
-      pub walk-stops : (r.fault ≡ 0 → ⊥) → (s' : Progress) → WalkedTo (reach fs empty 1) (record { number = r.fault; line = line + 1; state = s' }) shape' ends'
+    module _ (shape' : List ℕ) (ends' : List ℤ) (r : Result Progress Reason) (t : Stepped f s shape ends shape' ends' r) where
+      pub walk-stops : (e : Reason) → r ≡ Err e → (x : Refusal) → x ≡ record { reason = e; line = line + 1 } → WalkedTo (reach fs empty 1) (Err x) shape' ends'
       unfolding onwards
-      walk-stops nz s' =
-          let c : check_frame h.draft f ≡ Checked.fault r.fault = fault-of (check_frame h.draft f) (t.fault h.draft h.held) nz in
-          let e : reach fs empty 1 ≡ Reached.stopped r.fault (suc line) = first_step ∙ ap onwards c in
-          rw e (refl, omega arith, nz)
+      walk-stops e p x q =
+          let c : check_frame h.draft f ≡ Checked.fault (number_of e) = fault-of (check_frame h.draft f) (sym (ap fault_told p) ∙ t.fault h.draft h.held) (number-some e) in
+          let a : reach fs empty 1 ≡ Reached.stopped (number_of e) (suc line) = first_step ∙ ap onwards c in
+          rw a (ap (λ (y : Refusal). number_of y.reason) q, ap (λ (y : Refusal). y.line) q ∙ omega arith)
 
-      pub walk-goes : r.fault ≡ 0 → Left packed r.state shape' ends' (at + 1 + length f) (line + 1) fs
+      pub walk-goes : (u : Progress) → r ≡ Ok u → Left packed u shape' ends' (at + 1 + length f) (line + 1) fs
       unfolding onwards
-      walk-goes z =
-          let (e, c) = next_of (looked h.draft f) (sym (t.fault h.draft h.held) ∙ z) in
+      walk-goes u p =
+          let (e, c) = next_of (looked h.draft f) (sym (t.fault h.draft h.held) ∙ ap fault_told p) in
           let n : suc (suc line) ≡ suc (line + 1) = omega arith in
           record {
             rest = front.others;
             draft = e;
             bytes = front.next;
             same = first_step ∙ ap onwards c ∙ ap (reach front.others e) n;
-            held = t.next h.draft e h.held c;
+            held = t.next h.draft e u p h.held c;
           }
 
   over : length packed ≤ at → h.rest ≡ []
@@ -106,11 +111,11 @@ module _ (packed : List ℕ) (s : Progress) (shape : List ℕ) (ends : List ℤ)
       go [] e = refl
       go (f ∷ fs) e = no cc
 
-  pub walk_ends : length packed ≤ at → (l : ℕ) → WalkedTo (reach fs empty 1) (record { number = 0; line = l; state = s }) shape ends
+  pub walk_ends : length packed ≤ at → WalkedTo (reach fs empty 1) (Ok s) shape ends
   unfolding reach
-  walk_ends k l =
+  walk_ends k =
       let e : reach fs empty 1 ≡ Reached.came h.draft = h.same ∙ ap (λ r. reach r h.draft (suc line)) (over k) in
-      rw e (refl, h.held)
+      rw e h.held
 
 pub walk_begins : (packed shape : List ℕ) (ends : List ℤ) (s : Progress) → s ≡ start_progress → (fs : List (List ℕ)) → packed ≡ pack fs → DraftIn empty start_progress shape ends
     → Left packed s shape ends 0 0 fs
@@ -149,16 +154,14 @@ starts_more packed tables keys n shape shape₁ shape₂ x y l s f e p = record 
       (λ t. rw p (start-other shape₁ n x r (eqb-false r n t)) ∙ s.there r (omega (arith, eqb-false r n t)) z b);
 }
 
--- one frame more, and none
-pub start-turn : (packed : List ℕ) (at left : ℕ) → 0 < left → start_from packed (at + get_or packed at 0 + 1) (left - 1) ≡ start_from packed at left
+-- frame k behind a place, and no more of n
+pub start-turn : (packed : List ℕ) (at n k : ℕ) → k < n → start_from packed (at + get_or packed at 0 + 1) (n - (k + 1)) ≡ start_from packed at (n - k)
 unfolding start_from
-start-turn packed at zero h = absurd (omega arith)
-start-turn packed at (suc n) h = let e : suc n - 1 ≡ n = omega arith in ap (start_from packed (at + get_or packed at 0 + 1)) e
+start-turn packed at n k h = let e : n - k ≡ suc (n - (k + 1)) = omega arith in rw e
 
-pub start-end : (packed : List ℕ) (at left : ℕ) → left ≤ 0 → at ≡ start_from packed at left
+pub start-end : (packed : List ℕ) (at n k : ℕ) → n ≤ k → at ≡ start_from packed at (n - k)
 unfolding start_from
-start-end packed at zero h = refl
-start-end packed at (suc n) h = absurd (omega arith)
+start-end packed at n k h = let e : n - k ≡ 0 = omega arith in rw e
 
 pub starts-full : (packed : List ℕ) (tables keys n : ℕ) (shape shape' : List ℕ) → n ≡ 16 → StartsPut packed tables keys n shape shape'
     → StartsPut packed tables keys 16 shape shape'

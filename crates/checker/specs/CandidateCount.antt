@@ -1,5 +1,5 @@
 -- The number of candidates, worked out from the arrays. Assumes nothing: these are definitions.
-use Rattle.std.specs.Prelude.{◌≡◌, List, [], ◌∷◌, ◌++◌, ℕ, zero, suc, ◌+◌, ◌*◌, min, ℤ, length}
+use Rattle.std.specs.Prelude.{◌≡◌, cond, leb, Option, Some, None, List, [], ◌∷◌, ◌++◌, ℕ, zero, suc, ◌+◌, ◌*◌, min, ℤ, length}
 use Rattle.value.specs.Value.{Column, size}
 use Rattle.meaning.specs.Lists.{copies}
 use Rattle.meaning.specs.Syntax.{Table}
@@ -33,7 +33,11 @@ unfoldable pub cells_from : List ℕ → List ℤ → ℕ → ℕ → List Colum
 cells_from shape ends t zero = []
 cells_from shape ends t (suc n) = table_cells shape ends t ++ cells_from shape ends (t + 1) n
 
+-- a number that is not too large
+unfoldable pub within_limit : ℕ → Option ℕ
+within_limit n = cond (leb n candidate_limit) (Some n) None
+
 -- on any arrays; and for tables that the arrays stand for
-pub record CandidatesOf (shape : List ℕ) (ends : List ℤ) (tables r : ℕ) : Type 0 where
-  pub here : r ≡ capped_product 1 (cells_from shape ends 0 tables)
-  pub counted : (ts : List Table) → TablesKnown ts shape ends → tables ≡ length ts → r ≡ min (sizes_product (cell_columns ts)) too_many
+pub record CandidatesOf (shape : List ℕ) (ends : List ℤ) (tables : ℕ) (r : Option ℕ) : Type 0 where
+  pub here : r ≡ within_limit (capped_product 1 (cells_from shape ends 0 tables))
+  pub counted : (ts : List Table) → TablesKnown ts shape ends → tables ≡ length ts → r ≡ within_limit (sizes_product (cell_columns ts))

@@ -1,6 +1,8 @@
--- Faults as numbers, as the code has them: 0 is no fault, and a frame's fault is the first of a list in the document's order. Assumes
--- nothing: these are definitions.
-use Rattle.std.specs.Prelude.{Bool, cond, ◌&&◌, List, ℕ, eqb, ltb, leb, drop}
+-- Faults as numbers: 0 is no fault, and a frame's fault is the first of a list in the document's order. Assumes nothing: these are
+-- definitions.
+use Rattle.std.specs.Prelude.{Bool, cond, ◌&&◌, List, ℕ, zero, suc, eqb, ltb, leb, drop, Result, Ok, Err}
+use Rattle.text.specs.Refusals.{number_of}
+use Rattle.text.specs.declared.refusal.Reason.{Reason}
 use Rattle.language.specs.Reading.{Read, Reader}
 
 abbrev pub fault_of : {A : Type 0} → Read A → ℕ
@@ -14,6 +16,16 @@ fault_at frame at r = fault_of (r (drop at frame))
 -- the first fault of two
 unfoldable pub first : ℕ → ℕ → ℕ
 first m n = cond (eqb m 0) n m
+
+-- what an answer of the code says: no fault, or the number of its reason
+abbrev pub fault_told : {A : Type 0} → Result A Reason → ℕ
+fault_told (Ok x) = 0
+fault_told (Err r) = number_of r
+
+-- the first of n faults, in their order
+unfoldable pub first_among : (ℕ → ℕ) → ℕ → ℕ
+first_among fault zero = 0
+first_among fault (suc n) = first (first_among fault n) (fault n)
 
 -- the tests of a byte
 abbrev pub under : ℕ → ℕ → Bool

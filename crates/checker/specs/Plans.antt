@@ -1,8 +1,10 @@
 -- The plan of a checked file: what a text gives, in the checker's arrays and counts. Assumes nothing: these are definitions.
-use Rattle.std.specs.Prelude.{◌≡◌, false, cond, List, ℕ, zero, suc, ◌+◌, ◌<◌, ltb, ℤ, pos, length, get_or, replicate}
+use Rattle.std.specs.Prelude.{◌≡◌, Result, Ok, Err, cond, List, ℕ, zero, suc, ◌+◌, ◌<◌, ltb, ℤ, length, get_or}
 use Rattle.text.specs.Text.{Lines, frames_of}
 use Rattle.text.specs.Answers.{pack, Holds}
+use Rattle.text.specs.Refusals.{number_of}
 use Rattle.text.specs.declared.Frames.{Frames}
+use Rattle.text.specs.declared.refusal.Refusal.{Refusal}
 use Rattle.language.specs.Draft.{empty}
 use Rattle.language.specs.Check.{Outcome, Reached, reach}
 use Rattle.language.specs.FileOf.{file_of}
@@ -11,17 +13,22 @@ use Rattle.catalog.specs.FileIn.{PlanOf, SomeRow}
 use Rattle.catalog.specs.declared.outline.Outline.{Outline}
 use Rattle.catalog.specs.declared.plan.Plan.{Plan}
 use Rattle.checker.specs.Standing.{DraftIn, start_progress}
-use Rattle.checker.specs.declared.plan.Walked.{Walked}
 use Rattle.checker.specs.declared.state.Progress.{Progress}
 
 -- ---- frames in turn
 
--- what the walk over the frames answers: a refusal with its line, or 0 and the counts and arrays of the draft
-abbrev pub WalkedTo : Reached → Walked → List ℕ → List ℤ → Type 0
-WalkedTo (Reached.stopped n line) w shape ends = (w.number ≡ n) × (w.line ≡ line) × (n ≡ 0 → ⊥)
-WalkedTo (Reached.came d) w shape ends = (w.number ≡ 0) × DraftIn d w.state shape ends
+-- the refusal n at a line
+abbrev pub Says : ℕ → ℕ → Refusal → Type 0
+Says n line r = (number_of r.reason ≡ n) × (r.line ≡ line)
 
-pub record Walks (packed shape : List ℕ) (ends : List ℤ) (w : Walked) (shape' : List ℕ) (ends' : List ℤ) : Type 0 where
+-- what the walk over the frames answers: a refusal with its line, or the counts and arrays of the draft
+abbrev pub WalkedTo : Reached → Result Progress Refusal → List ℕ → List ℤ → Type 0
+WalkedTo (Reached.stopped n line) (Ok s) shape ends = ⊥
+WalkedTo (Reached.stopped n line) (Err r) shape ends = Says n line r
+WalkedTo (Reached.came d) (Ok s) shape ends = DraftIn d s shape ends
+WalkedTo (Reached.came d) (Err r) shape ends = ⊥
+
+pub record Walks (packed shape : List ℕ) (ends : List ℤ) (w : Result Progress Refusal) (shape' : List ℕ) (ends' : List ℤ) : Type 0 where
   pub walked : (fs : List (List ℕ)) → packed ≡ pack fs → DraftIn empty start_progress shape ends → WalkedTo (reach fs empty 1) w shape' ends'
 
 -- ---- where frames begin
@@ -57,8 +64,6 @@ pub record OutlineFrom (bytes shape : List ℕ) (s : Progress) (o : Outline) : T
   pub filled : SomeRow shape s.tables o.filled
 
 pub record PlanFrom (bytes : List ℕ) (s : Progress) (shape : List ℕ) (ends : List ℤ) (n : ℕ) (p : Plan) : Type 0 where
-  pub number : p.number ≡ 0
-  pub line : p.line ≡ 0
   pub bytes-are : p.bytes ≡ bytes
   pub starts : StartsPut bytes s.tables s.keys 16 shape p.shape
   pub ends-are : p.ends ≡ ends
@@ -66,24 +71,13 @@ pub record PlanFrom (bytes : List ℕ) (s : Progress) (shape : List ℕ) (ends :
   pub goal : p.goal ≡ record { view = s.goal; negative = s.negative }
   pub candidates-are : p.candidates ≡ n
 
--- a refusal: every field beside its number and its line is 0
-unfoldable pub refused_plan : ℕ → ℕ → Plan
-refused_plan n line = record {
-  number = n;
-  line = line;
-  bytes = replicate 5462 0;
-  shape = replicate 128 0;
-  ends = replicate 256 (pos 0);
-  outline = record { tables = 0; keys = 0; relations = 0; foreign = 0; filled = false };
-  goal = record { view = 0; negative = false };
-  candidates = 0;
-}
-
-abbrev pub Plans : Outcome → Plan → Type 0
-Plans (Outcome.refused n line) p = (p.number ≡ n) × (p.line ≡ line) × (n ≡ 0 → ⊥) × (p ≡ refused_plan n line)
-Plans (Outcome.accepted F) p = PlanOf F p
+abbrev pub Plans : Outcome → Result Plan Refusal → Type 0
+Plans (Outcome.refused n line) (Ok p) = ⊥
+Plans (Outcome.refused n line) (Err r) = Says n line r
+Plans (Outcome.accepted F) (Ok p) = PlanOf F p
+Plans (Outcome.accepted F) (Err r) = ⊥
 
 -- the plan of a text whose frames, packed in these bytes, were all walked without fault
-pub record PlansWhole (bytes : List ℕ) (s : Progress) (shape : List ℕ) (ends : List ℤ) (p : Plan) : Type 0 where
-  pub plans : (text : List ℕ) (fs : List (List ℕ)) (r : Frames) (w : Walked) → frames_of text ≡ Lines.frames fs → Holds fs r → r.bytes ≡ bytes
-      → WalkedTo (reach fs empty 1) w shape ends → w.number ≡ 0 → w.state ≡ s → Plans (file_of text) p
+pub record PlansWhole (bytes : List ℕ) (s : Progress) (shape : List ℕ) (ends : List ℤ) (p : Result Plan Refusal) : Type 0 where
+  pub plans : (text : List ℕ) (fs : List (List ℕ)) (r : Frames) → frames_of text ≡ Lines.frames fs → Holds fs r → r.bytes ≡ bytes
+      → WalkedTo (reach fs empty 1) (Ok s) shape ends → Plans (file_of text) p

@@ -1,23 +1,25 @@
 -- What the rules 7, 8 and 9 on the whole frame of a basic or an aggregate view answer, and the ranges that they store. Assumes nothing:
 -- these are definitions.
-use Rattle.std.specs.Prelude.{◌≡◌, Bool, true, false, ◌&&◌, cond, ℕ, ◌*◌, ◌%◌, ◌<◌, ◌≤◌, ltb, leb, ℤ, length, get_or, drop}
+use Rattle.std.specs.Prelude.{◌≡◌, Result, Ok, Bool, true, false, ◌&&◌, cond, ℕ, ◌*◌, ◌%◌, ◌<◌, ◌≤◌, ltb, leb, ℤ, length, get_or, drop, Option, None, Some}
+use Rattle.range.specs.declared.Range.{Range}
 use mathlib.Core.List.{List, [], foldr, map}
 use Rattle.value.specs.Bag.{All}
-use Rattle.range.specs.declared.Ranged.{Ranged}
-use Rattle.range.specs.declared.Ranged.TheVariants.{Within, Beyond}
+use Rattle.text.specs.declared.refusal.Reason.{Reason}
 use Rattle.meaning.specs.Lists.{all}
 use Rattle.meaning.specs.Syntax.{Expr, View}
-use Rattle.language.specs.Reading.{Read, Reader, read_e}
+use Rattle.language.specs.Reading.{Read, read_e}
 use Rattle.meaning.specs.Bounds.{OpenRanges, range, within_e, allowed_e}
 use Rattle.catalog.specs.Arrays.{width_at, bound_at, ranges_from, put_range, put_shape, Outside}
 use Rattle.catalog.specs.Frames.{froms_in, parts_after}
 use Rattle.catalog.specs.Items.{relations_in, open_in, open_ranges_in}
 use Rattle.bounds.specs.Walk.{permitted_of, TestsC}
+use Rattle.bounds.specs.declared.Part.TheVariants.{Where, Plain}
 use Rattle.bounds.specs.declared.Rule.{Rule}
 use Rattle.bounds.specs.declared.Tested.{Tested}
 use Rattle.language.specs.Draft.{Draft, Item, added, relation_count}
 use Rattle.language.specs.Frames.{repeated, whole_fault}
 use Rattle.checker.specs.Catalogued.{Catalogued}
+use Rattle.checker.specs.Faults.{fault_told}
 use Rattle.checker.specs.ViewFaults.{own_frame}
 use Rattle.checker.specs.declared.view_rules.Ruled.{Ruled}
 use Rattle.checker.specs.declared.view_rules.Opening.{Opening}
@@ -36,9 +38,9 @@ pub record ProductBound (shape items : List ℕ) (p : ℕ) : Type 0 where
   pub product : length items ≤ 3 → p ≡ product_of shape items
 
 -- a column's range stored if it fits
-unfoldable pub put_ranged : List ℤ → ℕ → ℕ → Ranged → List ℤ
-put_ranged ends r c (Within x) = put_range ends r c x
-put_ranged ends r c Beyond = ends
+unfoldable pub put_ranged : List ℤ → ℕ → ℕ → Option Range → List ℤ
+put_ranged ends r c (Some x) = put_range ends r c x
+put_ranged ends r c None = ends
 
 -- the number of the first rule that is broken
 unfoldable pub view_fault : Bool → ℕ → Bool → ℕ
@@ -46,7 +48,7 @@ view_fault allowed bound within = cond allowed (cond (leb bound 64) (cond within
 
 -- the rule of a basic view's select, and of the where of any view
 abbrev pub plain_rule : ℕ → Bool → Rule
-plain_rule bound filter = record { bound = bound; grouped = false; filter = filter; places = 0; count = 0 }
+plain_rule bound filter = record { bound = bound; part = cond filter Where Plain }
 
 -- what the arrays need so that relation r can be stored while those of the from list are read
 pub record EntryRoom (shape : List ℕ) (ends : List ℤ) (items : List ℕ) (r : ℕ) : Type 0 where
@@ -66,15 +68,14 @@ pub record Selects (frame : List ℕ) (start c : ℕ) (items shape : List ℕ) (
       × (within ≡ true → ranges_from ends' (16 * r) c ≡ map (range (open_ranges_in shape ends r items rule.bound)) es)
 
 -- what is answered for a view with the select expressions es: `allowed` is the rule on 07, `within` that on ranges, I what is open
-pub record RuledAs (allowed within : Bool) (es : List Expr) (I : OpenRanges) (r : ℕ) (ends ends' : List ℤ) (a : Ruled) : Type 0 where
-  pub fault : a.fault ≡ view_fault allowed I.bound within
-  pub bound : a.bound ≡ I.bound % 256
-  pub narrow : a.width ≤ 8
+pub record RuledAs (allowed within : Bool) (es : List Expr) (I : OpenRanges) (r : ℕ) (ends ends' : List ℤ) (a : Result Ruled Reason) : Type 0 where
+  pub fault : fault_told a ≡ view_fault allowed I.bound within
   pub outside : Outside r 8 ends ends'
-  pub ranges : within ≡ true → ranges_from ends' (16 * r) a.width ≡ map (range I) es
+  pub told : (x : Ruled) → a ≡ Ok x → (x.bound ≡ I.bound % 256) × (x.width ≤ 8) × (within ≡ true → ranges_from ends' (16 * r) x.width ≡ map (range I) es)
 
-pub record Tail (frame : List ℕ) (head : Tested) (count : ℕ) (items shape : List ℕ) (ends : List ℤ) (r : ℕ) (rule : Rule) (ends' : List ℤ) (a : Ruled) : Type 0 where
-  pub outside : Outside r a.width ends ends'
+pub record Tail (frame : List ℕ) (head : Tested) (count : ℕ) (items shape : List ℕ) (ends : List ℤ) (r : ℕ) (rule : Rule) (ends' : List ℤ) (a : Result Ruled Reason) : Type 0 where
+  pub outside : Outside r count ends ends'
+  pub width : (x : Ruled) → a ≡ Ok x → x.width ≡ count
   pub ruled : EntryRoom shape ends items r → count ≤ 8 → (es : List Expr) (rest : List ℕ)
       → repeated count (read_e (open_in shape r items)) (drop head.next frame) ≡ Read.ok es rest
       → RuledAs (head.allowed && all (allowed_e (permitted_of frame rule)) es)
@@ -91,13 +92,15 @@ pub record OpeningOf (grouped : Bool) (frame shape : List ℕ) (ends : List ℤ)
   pub tested : TestsC frame o.parts.body (relations_in o.items) shape ends (plain_rule o.bound true) o.filter
 
 -- which numbers may change, of any bytes; the rest for every draft that the arrays stand for, and every view that the frame's bytes read as
-pub record Rules (reader : Draft → Reader Item) (frame : List ℕ) (r : ℕ) (shape : List ℕ) (ends ends' : List ℤ) (a : Ruled) : Type 0 where
-  pub outside : Outside r a.width ends ends'
-  pub fault : (d : Draft) (q : View) → Catalogued d shape ends → r ≡ relation_count d → r < 16 → reader d (drop 1 frame) ≡ Read.ok (Item.view q) []
-      → a.fault ≡ whole_fault d (Item.view q)
-  pub entered : (d : Draft) (q : View) → Catalogued d shape ends → r ≡ relation_count d → r < 16 → reader d (drop 1 frame) ≡ Read.ok (Item.view q) []
-      → whole_fault d (Item.view q) ≡ 0 → Catalogued (added d (Item.view q)) (put_shape shape r 2 a.width a.bound 0) ends'
+pub record Rules (grouped : Bool) (frame : List ℕ) (r : ℕ) (shape : List ℕ) (ends ends' : List ℤ) (a : Result Ruled Reason) : Type 0 where
+  pub outside : Outside r (parts_after grouped (get_or frame 1 0) frame).width ends ends'
+  pub width : (x : Ruled) → a ≡ Ok x → x.width ≡ (parts_after grouped (get_or frame 1 0) frame).width
+  pub fault : (d : Draft) (q : View) → Catalogued d shape ends → r ≡ relation_count d → r < 16 → own_frame grouped d (drop 1 frame) ≡ Read.ok (Item.view q) []
+      → fault_told a ≡ whole_fault d (Item.view q)
+  pub entered : (d : Draft) (q : View) (x : Ruled) → a ≡ Ok x → Catalogued d shape ends → r ≡ relation_count d → r < 16
+      → own_frame grouped d (drop 1 frame) ≡ Read.ok (Item.view q) []
+      → whole_fault d (Item.view q) ≡ 0 → Catalogued (added d (Item.view q)) (put_shape shape r 2 x.width x.bound 0) ends'
 
 -- for a frame that begins so
-pub record RulesFrom (grouped : Bool) (o : Opening) (frame : List ℕ) (r : ℕ) (shape : List ℕ) (ends ends' : List ℤ) (a : Ruled) : Type 0 where
-  pub rules : OpeningOf grouped frame shape ends o → Rules (own_frame grouped) frame r shape ends ends' a
+pub record RulesFrom (grouped : Bool) (o : Opening) (frame : List ℕ) (r : ℕ) (shape : List ℕ) (ends ends' : List ℤ) (a : Result Ruled Reason) : Type 0 where
+  pub rules : OpeningOf grouped frame shape ends o → Rules grouped frame r shape ends ends' a

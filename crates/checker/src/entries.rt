@@ -21,8 +21,8 @@ const VIEW: u8 = 2;
 // The largest number of candidates that a file may have, 2^24.
 pub const CANDIDATE_LIMIT: u64 = 16777216;
 
-// The first number that is too large.
-pub const TOO_MANY: u64 = CANDIDATE_LIMIT + 1;
+// The first number that is too large: products are cut off there.
+const TOO_MANY: u64 = CANDIDATE_LIMIT + 1;
 
 // The column whose four bytes stand at a place.
 fn domain_at(bytes: &[u8], at: usize) -> Domain
@@ -46,10 +46,8 @@ fn column_in(frame: &[u8], c: u8) -> Range
 fn put_columns(frame: &[u8], ends: &mut [i32], r: u8, width: u8)
     ensures { ends.new ≡ put_ranges (column_in frame.now) ends.old r width }
 {
-    let mut c: u8 = 0;
-    while c < width {
+    for c in 0..width {
         arrays::put_range(ends, r, c, column_in(frame, c));
-        c += 1;
     }
 }
 
@@ -75,13 +73,11 @@ pub(crate) fn enter_view(shape: &mut [u8], r: u8, width: u8, bound: u8)
 fn put_hulls(shape: &[u8], ends: &mut [i32], left: u8, right: u8, r: u8, width: u8)
     ensures { ends.new ≡ put_hulls shape.now ends.old left right r width }
 {
-    let mut c: u8 = 0;
-    while c < width {
+    for c in 0..width {
         let hull = arrays::range_at(shape, ends, left, c).hull(arrays::range_at(
             shape, ends, right, c,
         ));
         arrays::put_range(ends, r, c, hull);
-        c += 1;
     }
 }
 
@@ -96,7 +92,7 @@ fn joined_bound(union: bool, a: u8, b: u8) -> u8
     ensures { result ≡ min (set_bound (set_operation union) a b) 255 }
 {
     if union {
-        integer::sum_of(a, b)
+        a.saturating_add(b)
     } else {
         least(a, b)
     }
@@ -158,10 +154,8 @@ fn times_row(shape: &[u8], ends: &[i32], t: u8, n: u64) -> u64
 {
     let width = arrays::width_of(shape, t);
     let mut p = n;
-    let mut c: u8 = 0;
-    while c < width {
+    for c in 0..width {
         p = capped(p, arrays::domain_of(shape, ends, t, c).size());
-        c += 1;
     }
     p
 }
@@ -171,25 +165,22 @@ fn times_table(shape: &[u8], ends: &[i32], t: u8, n: u64) -> u64
     requires { n ≤ too_many }
     ensures { (result ≡ capped_product n (table_cells shape.now ends.now t)) × (result ≤ too_many) }
 {
-    let mut left = arrays::bound_of(shape, t);
+    let rows = arrays::bound_of(shape, t);
     let mut p = n;
-    while 0 < left {
+    for _ in 0..rows {
         p = times_row(shape, ends, t, p);
-        left -= 1;
     }
     p
 }
 
-// The number of candidates of a file's tables, the first relations; TOO_MANY stands for any larger number.
+// The number of candidates of a file's tables, the first relations, if it is not too large.
 // Refused: 0 with no cells; the first table counted for each.
-pub(crate) fn candidates_of(shape: &[u8], ends: &[i32], tables: u8) -> u64
+pub(crate) fn candidates_of(shape: &[u8], ends: &[i32], tables: u8) -> Option<u64>
     ensures { CandidatesOf shape.now ends.now tables result }
 {
     let mut p: u64 = 1;
-    let mut t: u8 = 0;
-    while t < tables {
+    for t in 0..tables {
         p = times_table(shape, ends, t, p);
-        t += 1;
     }
-    p
+    if p <= CANDIDATE_LIMIT { Some(p) } else { None }
 }

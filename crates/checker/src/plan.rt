@@ -1,50 +1,34 @@
 // A text to the plan of its file, or to its refusal.
 ghost use Rattle.std.specs.Prelude.{◌≡◌, ◌≤◌, length};
 ghost use Rattle.language.specs.FileOf.{file_of};
-ghost use Rattle.checker.specs.Plans.{Walks, start_from, frame_number, StartsPut, OutlineFrom, PlanFrom, refused_plan, Plans, PlansWhole};
+ghost use Rattle.checker.specs.Plans.{Walks, start_from, frame_number, StartsPut, OutlineFrom, PlanFrom, Plans, PlansWhole};
 
-use super::state::Progress;
-use super::{entries, state, step};
+use super::state::{Progress, Stage};
+use super::{entries, step};
 use catalog::outline::Outline;
 use catalog::plan::{Goal, Plan};
 use catalog::{arrays, frames, outline};
 use text;
+use text::refusal::{Reason, Refusal};
 
-// How far the frames are taken.
-#[derive(Clone, Copy)]
-struct Walked {
-    number: u8,
-    line: u16,
-    state: Progress,
-}
-
-// The frames of packed bytes, in turn.
-fn walk(packed: &[u8], shape: &mut [u8], ends: &mut [i32]) -> Walked
+// The frames of packed bytes, in turn. The loop counts by hand, for a turn goes on by the length of a frame.
+fn walk(packed: &[u8], shape: &mut [u8], ends: &mut [i32]) -> Result<Progress, Refusal>
     requires { length packed.now ≤ 5462 }
     ensures { Walks packed.now shape.old ends.old result shape.new ends.new }
 {
-    let mut s = state::start();
+    let mut s = Progress::start();
     let mut at = 0;
     let mut line: u16 = 0;
     while at < packed.len() {
         line = line + 1;
         let frame = frames::frame_at(packed, at);
-        let next = step::frame_step(frame, shape, ends, s);
-        if next.fault != 0 {
-            return Walked {
-                number: next.fault,
-                line: line,
-                state: s,
-            };
-        }
-        s = next.state;
+        s = match step::frame_step(frame, shape, ends, s) {
+            Ok(next) => next,
+            Err(reason) => return Err(reason.at(line)),
+        };
         at = at + 1 + frame.len();
     }
-    Walked {
-        number: 0,
-        line: 0,
-        state: s,
-    }
+    Ok(s)
 }
 
 // Where the frame behind n frames begins, its length byte first.
@@ -53,10 +37,8 @@ fn place_behind(bytes: &[u8], n: u16) -> u32
     ensures { result ≡ start_from bytes.now 0 n }
 {
     let mut at: u32 = 0;
-    let mut left = n;
-    while 0 < left {
+    for _ in 0..n {
         at = at + (slice::item_at(bytes, at as usize, 0) as u32) + 1;
-        left = left - 1;
     }
     at
 }
@@ -76,11 +58,9 @@ fn frame_number(tables: u8, keys: u8, r: u8) -> u16
 fn put_starts(bytes: &[u8], tables: u8, keys: u8, shape: &mut [u8])
     ensures { StartsPut bytes.now tables keys 16 shape.old shape.new }
 {
-    let mut r: u8 = 0;
-    while r < 16 {
+    for r in 0..16 {
         let start = place_behind(bytes, frame_number(tables, keys, r));
         arrays::put_start(shape, r, start);
-        r = r + 1;
     }
 }
 
@@ -117,8 +97,6 @@ fn plan_from(
         negative: s.negative,
     };
     Plan {
-        number: 0,
-        line: 0,
         bytes: bytes,
         shape: located,
         ends: ends,
@@ -128,63 +106,34 @@ fn plan_from(
     }
 }
 
-fn refusal(number: u8, line: u16) -> Plan
-    ensures { result ≡ refused_plan number line }
-{
-    let outline = Outline {
-        tables: 0,
-        keys: 0,
-        relations: 0,
-        foreign: 0,
-        filled: false,
-    };
-    let goal = Goal {
-        view: 0,
-        negative: false,
-    };
-    Plan {
-        number: number,
-        line: line,
-        bytes: [0u8; text::ROOM],
-        shape: [0u8; 128],
-        ends: [0i32; 256],
-        outline: outline,
-        goal: goal,
-        candidates: 0,
-    }
-}
-
 // The plan of a file whose frames were all walked without fault, or its refusal where it has no goal or too many candidates.
-fn plan_whole(bytes: [u8; text::ROOM], s: Progress, shape: [u8; 128], ends: [i32; 256]) -> Plan
+fn plan_whole(
+    bytes: [u8; text::ROOM],
+    s: Progress,
+    shape: [u8; 128],
+    ends: [i32; 256],
+) -> Result<Plan, Refusal>
     ensures { PlansWhole bytes s shape ends result }
 {
-    if s.stage != 5 {
-        return refusal(3, 0);
-    }
-    let n = entries::candidates_of(&shape, &ends, s.tables);
-    if n == entries::TOO_MANY {
-        return refusal(10, 0);
-    }
-    plan_from(bytes, s, shape, ends, n)
+    let Stage::Ended = s.stage else {
+        return Err(Reason::Order.at(0));
+    };
+    let Some(n) = entries::candidates_of(&shape, &ends, s.tables) else {
+        return Err(Reason::Candidates.at(0));
+    };
+    Ok(plan_from(bytes, s, shape, ends, n))
 }
 
 // The plan of the file that a text means, or its refusal by 1 to 10 with its line.
 // Refused: the refusal of a text without its line; a frame's refusal without its line.
-pub fn check(text: &[u8]) -> Plan
+pub fn check(text: &[u8]) -> Result<Plan, Refusal>
     ensures { Plans (file_of text.now) result }
 {
-    let frames = text::decode(text);
-    if frames.number != 0 {
-        return refusal(frames.number, frames.line);
-    }
+    let frames = text::decode(text)?;
     let bytes = frames.bytes;
     let used = frames.used;
     let mut shape = [0u8; 128];
     let mut ends = [0i32; 256];
-    let walked = walk(&bytes[..used], &mut shape, &mut ends);
-    if walked.number != 0 {
-        return refusal(walked.number, walked.line);
-    }
-    let s = walked.state;
+    let s = walk(&bytes[..used], &mut shape, &mut ends)?;
     plan_whole(bytes, s, shape, ends)
 }

@@ -5,97 +5,75 @@ ghost use Rattle.checker.specs.ViewFaults.{own_kind};
 ghost use Rattle.checker.specs.Standing.{Turned, Stepped};
 
 use super::state::Progress;
-use super::{entries, fixed, state, view_bytes, view_rules};
+use super::{entries, fixed, view_bytes, view_rules};
 use catalog::frames;
+use text::refusal::Reason;
 
-#[derive(Clone, Copy)]
-pub struct Step {
-    pub fault: u8,
-    pub state: Progress,
-}
-
-fn table_step(frame: &[u8], shape: &mut [u8], ends: &mut [i32], s: Progress) -> Step
+fn table_step(
+    frame: &[u8],
+    shape: &mut [u8],
+    ends: &mut [i32],
+    s: Progress,
+) -> Result<Progress, Reason>
     ensures { Turned 1 frame.now s shape.old ends.old shape.new ends.new result }
 {
-    let fault = fixed::table_fault(frame);
-    if fault != 0 {
-        return Step {
-            fault: fault,
-            state: s,
-        };
-    }
+    fixed::table_fault(frame)?;
     entries::enter_table(frame, shape, ends, s.relations);
-    Step {
-        fault: 0,
-        state: state::with_table(s),
-    }
+    Ok(s.with_table())
 }
 
-fn key_step(frame: &[u8], shape: &[u8], ends: &[i32], s: Progress) -> Step
+fn key_step(frame: &[u8], shape: &[u8], ends: &[i32], s: Progress) -> Result<Progress, Reason>
     ensures { Turned 2 frame.now s shape.now ends.now shape.now ends.now result }
 {
-    let fault = fixed::key_fault(frame, shape, s.tables);
-    if fault != 0 {
-        return Step {
-            fault: fault,
-            state: s,
-        };
-    }
-    Step {
-        fault: 0,
-        state: state::with_key(s),
-    }
+    fixed::key_fault(frame, shape, s.tables)?;
+    Ok(s.with_key())
 }
 
-fn view_step(grouped: bool, frame: &[u8], shape: &mut [u8], ends: &mut [i32], s: Progress) -> Step
+fn view_step(
+    grouped: bool,
+    frame: &[u8],
+    shape: &mut [u8],
+    ends: &mut [i32],
+    s: Progress,
+) -> Result<Progress, Reason>
     ensures { Turned (own_kind grouped) frame.now s shape.old ends.old shape.new ends.new result }
 {
-    let fault = view_bytes::bytes_fault(frame, shape, s.relations, grouped);
-    if fault != 0 {
-        return Step {
-            fault: fault,
-            state: s,
-        };
-    }
-    let ruled = view_rules::rules(frame, shape, ends, s.relations, grouped);
+    view_bytes::bytes_fault(frame, shape, s.relations, grouped)?;
+    let ruled = view_rules::rules(frame, shape, ends, s.relations, grouped)?;
     entries::enter_view(shape, s.relations, ruled.width, ruled.bound);
-    Step {
-        fault: ruled.fault,
-        state: state::with_view(s),
-    }
+    Ok(s.with_view())
 }
 
-fn set_step(union: bool, frame: &[u8], shape: &mut [u8], ends: &mut [i32], s: Progress) -> Step
+fn set_step(
+    union: bool,
+    frame: &[u8],
+    shape: &mut [u8],
+    ends: &mut [i32],
+    s: Progress,
+) -> Result<Progress, Reason>
     ensures { Turned (set_kind (set_operation union)) frame.now s shape.old ends.old shape.new ends.new result }
 {
-    let fault = fixed::set_fault(frame, shape, s.tables, s.relations, union);
-    if fault != 0 {
-        return Step {
-            fault: fault,
-            state: s,
-        };
-    }
+    fixed::set_fault(frame, shape, s.tables, s.relations, union)?;
     let operands = frames::set_parts(frame);
     entries::enter_set(union, operands, shape, ends, s.relations);
-    Step {
-        fault: 0,
-        state: state::with_view(s),
-    }
+    Ok(s.with_view())
 }
 
-fn goal_step(frame: &[u8], shape: &[u8], ends: &[i32], s: Progress) -> Step
+fn goal_step(frame: &[u8], shape: &[u8], ends: &[i32], s: Progress) -> Result<Progress, Reason>
     ensures { Turned 7 frame.now s shape.now ends.now shape.now ends.now result }
 {
-    let fault = fixed::goal_fault(frame, s.tables, s.relations);
-    let goal = frames::goal_of(frame);
-    Step {
-        fault: fault,
-        state: state::with_goal(s, goal),
-    }
+    fixed::goal_fault(frame, s.tables, s.relations)?;
+    Ok(s.with_goal(frames::goal_of(frame)))
 }
 
 // The frame of a kind whose turn has come.
-fn body_step(kind: u8, frame: &[u8], shape: &mut [u8], ends: &mut [i32], s: Progress) -> Step
+fn body_step(
+    kind: u8,
+    frame: &[u8],
+    shape: &mut [u8],
+    ends: &mut [i32],
+    s: Progress,
+) -> Result<Progress, Reason>
     ensures { Turned kind frame.now s shape.old ends.old shape.new ends.new result }
 {
     match kind {
@@ -110,19 +88,18 @@ fn body_step(kind: u8, frame: &[u8], shape: &mut [u8], ends: &mut [i32], s: Prog
 // One frame: its fault, or the state and the arrays with what it adds. What is entered beside a fault is open: the walk ends there, and a
 // refused plan has none of it. Which numbers may change is said of every input.
 // Refused: 3 for a 17th relation or foreign key; every frame as a table's.
-pub(crate) fn frame_step(frame: &[u8], shape: &mut [u8], ends: &mut [i32], s: Progress) -> Step
+pub(crate) fn frame_step(
+    frame: &[u8],
+    shape: &mut [u8],
+    ends: &mut [i32],
+    s: Progress,
+) -> Result<Progress, Reason>
     ensures { Stepped frame.now s shape.old ends.old shape.new ends.new result }
 {
     if frame.len() == 0 {
-        return Step { fault: 4, state: s };
+        return Err(Reason::Form);
     }
     let kind = frame[0];
-    let turn = state::turn_fault(s, kind);
-    if turn != 0 {
-        return Step {
-            fault: turn,
-            state: s,
-        };
-    }
+    s.turn(kind)?;
     body_step(kind, frame, shape, ends, s)
 }

@@ -3,19 +3,18 @@ ghost use Rattle.std.specs.Prelude.{◌≡◌, true, false, ◌&&◌, ◌≤◌,
 ghost use Rattle.catalog.specs.Items.{relations_in};
 ghost use Rattle.bounds.specs.Walk.{is_within, TestsC};
 ghost use Rattle.checker.specs.ViewRules.{put_ranged, factor_at, view_fault, plain_rule, ProductBound, Selects, Tail, OpeningOf, Rules, RulesFrom};
-ghost use Rattle.checker.specs.ViewFaults.{own_frame};
+ghost use Rattle.checker.specs.Faults.{fault_told};
 
-use bounds;
-use bounds::{Rule, Tested};
+use bounds::{Part, Rule, Scope, Tested};
 use catalog::frames::Parts;
 use catalog::items::{Items, from_items, relation};
 use catalog::{arrays, frames};
-use range::Ranged;
+use range::Range;
+use text::refusal::Reason;
 
-// The fault of a view's frame that its bytes leave open, 0 for none; its row bound and its number of columns.
+// The row bound of a view and its number of columns.
 #[derive(Clone, Copy)]
 pub struct Ruled {
-    pub fault: u8,
     pub bound: u8,
     pub width: u8,
 }
@@ -64,15 +63,15 @@ fn product_bound(items: Items, shape: &[u8]) -> u32
 }
 
 // Column c of relation r, if its range fits; and whether it does.
-fn store(ends: &mut [i32], r: u8, c: u8, x: Ranged) -> bool
+fn store(ends: &mut [i32], r: u8, c: u8, x: Option<Range>) -> bool
     ensures { (result ≡ is_within x) × (ends.new ≡ put_ranged ends.old r c x) }
 {
     match x {
-        Ranged::Within(range) => {
+        Some(range) => {
             arrays::put_range(ends, r, c, range);
             true
         }
-        Ranged::Beyond => false,
+        None => false,
     }
 }
 
@@ -95,9 +94,15 @@ fn selects(
     let mut within = true;
     let mut c: u8 = 0;
     while c < count {
-        let e = bounds::expression(frame, at, items, shape, ends, rule);
-        let range = e.range;
-        let fits = store(ends, r, c, range);
+        let scope = Scope {
+            frame,
+            items,
+            shape,
+            ends,
+            rule,
+        };
+        let e = scope.expression(at);
+        let fits = store(ends, r, c, e.range);
         allowed = allowed & e.allowed;
         within = within & fits;
         at = e.next;
@@ -110,19 +115,16 @@ fn selects(
 }
 
 // The first rule that is broken.
-fn rules_fault(allowed: bool, bound: u32, within: bool) -> u8
-    ensures { result ≡ view_fault allowed bound within }
+fn rules_fault(allowed: bool, bound: u32, within: bool) -> Result<(), Reason>
+    ensures { fault_told result ≡ view_fault allowed bound within }
 {
-    if allowed {
-        if bound <= 64 {
-            if within {
-                return 0;
-            }
-            return 9;
-        }
-        return 8;
+    if !allowed {
+        return Err(Reason::Aggregate);
     }
-    7
+    if 64 < bound {
+        return Err(Reason::RowBound);
+    }
+    if within { Ok(()) } else { Err(Reason::Range) }
 }
 
 // The answer for a view whose conditions are `head`, which the select expressions follow.
@@ -134,38 +136,40 @@ fn tail(
     shape: &[u8],
     ends: &mut [i32],
     r: u8,
-) -> Ruled
+) -> Result<Ruled, Reason>
     ensures { Tail frame.now head list.count (relations_in items) shape.now ends.old r list.rule ends.new result }
 {
     let rule = list.rule;
     let s = selects(frame, head.next, list, items, shape, ends, r);
     let allowed = head.allowed & s.allowed;
     let within = head.within & s.within;
-    Ruled {
-        fault: rules_fault(allowed, rule.bound, within),
+    rules_fault(allowed, rule.bound, within)?;
+    Ok(Ruled {
         bound: (rule.bound % 256) as u8,
         width: list.count,
-    }
+    })
 }
 
 // The rule of a basic view's select, and of the where of any view.
 fn plain(bound: u32, filter: bool) -> Rule
     ensures { result ≡ plain_rule bound filter }
 {
-    Rule {
-        bound: bound,
-        grouped: false,
-        filter: filter,
-        places: 0,
-        count: 0,
-    }
+    let part = if filter { Part::Where } else { Part::Plain };
+    Rule { bound, part }
 }
 
 // The where of any view.
 fn filtered(frame: &[u8], at: usize, items: Items, shape: &[u8], ends: &[i32], bound: u32) -> Tested
     ensures { TestsC frame.now at (relations_in items) shape.now ends.now (plain_rule bound true) result }
 {
-    bounds::condition(frame, at, items, shape, ends, plain(bound, true))
+    let scope = Scope {
+        frame,
+        items,
+        shape,
+        ends,
+        rule: plain(bound, true),
+    };
+    scope.condition(at)
 }
 
 // A place in the frame or at its end.
@@ -203,7 +207,13 @@ fn opening_of(frame: &[u8], shape: &[u8], ends: &[i32], grouped: bool) -> Openin
 }
 
 // The rules on the whole frame of a basic view that begins so, and the ranges of its columns.
-fn basic_rules(frame: &[u8], o: Opening, shape: &[u8], ends: &mut [i32], r: u8) -> Ruled
+fn basic_rules(
+    frame: &[u8],
+    o: Opening,
+    shape: &[u8],
+    ends: &mut [i32],
+    r: u8,
+) -> Result<Ruled, Reason>
     ensures { RulesFrom false o frame.now r shape.now ends.old ends.new result }
 {
     let items = o.items;
@@ -218,22 +228,33 @@ fn basic_rules(frame: &[u8], o: Opening, shape: &[u8], ends: &mut [i32], r: u8) 
 }
 
 // The same of an aggregate view.
-fn grouped_rules(frame: &[u8], o: Opening, shape: &[u8], ends: &mut [i32], r: u8) -> Ruled
+fn grouped_rules(
+    frame: &[u8],
+    o: Opening,
+    shape: &[u8],
+    ends: &mut [i32],
+    r: u8,
+) -> Result<Ruled, Reason>
     ensures { RulesFrom true o frame.now r shape.now ends.old ends.new result }
 {
     let items = o.items;
     let parts = o.parts;
     let filter = o.filter;
     let places = inside(frame, filter.next);
+    let count = parts.groups;
     let rule = Rule {
         bound: o.bound,
-        grouped: true,
-        filter: false,
-        places: places,
-        count: parts.groups,
+        part: Part::Grouped { places, count },
     };
-    let having = places + 2 * (parts.groups as usize);
-    let h = bounds::condition(frame, having, items, shape, ends, rule);
+    let having = places + 2 * usize::from(count);
+    let scope = Scope {
+        frame,
+        items,
+        shape,
+        ends,
+        rule,
+    };
+    let h = scope.condition(having);
     let list = SelectList {
         count: parts.width,
         rule: rule,
@@ -244,8 +265,14 @@ fn grouped_rules(frame: &[u8], o: Opening, shape: &[u8], ends: &mut [i32], r: u8
 // The rules on the whole frame of an aggregate or of a basic view, 7, 8 and 9, and the ranges of its columns. Of bytes that are no such frame
 // the answer is open, but for which numbers may change: the byte pass has refused them before.
 // Refused: an aggregate view's ranges as relation 0's; a basic view's.
-pub(crate) fn rules(frame: &[u8], shape: &[u8], ends: &mut [i32], r: u8, grouped: bool) -> Ruled
-    ensures { Rules (own_frame grouped) frame.now r shape.now ends.old ends.new result }
+pub(crate) fn rules(
+    frame: &[u8],
+    shape: &[u8],
+    ends: &mut [i32],
+    r: u8,
+    grouped: bool,
+) -> Result<Ruled, Reason>
+    ensures { Rules grouped frame.now r shape.now ends.old ends.new result }
 {
     let o = opening_of(frame, shape, ends, grouped);
     if grouped {

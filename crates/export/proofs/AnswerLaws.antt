@@ -1,44 +1,51 @@
 -- What a plan and an answer give as numbers. Assumes nothing.
 use mathlib.Core.Path.{◌≡◌, refl, sym, ap, ap₂, ◌∙◌}
 use mathlib.Core.List.{List}
-use Prim.Native.Nat.{ℕ, ◌+◌, ◌*◌, ◌/◌, ◌%◌, ◌<◌}
+use Prim.Native.Nat.{ℕ, ◌+◌, ◌*◌, ◌/◌, ◌%◌, ◌^◌, ◌<◌}
 use native.Mathlib.Omega.{arith}
 use lib.IntN.{ℤ}
 use Rattle.meaning.specs.Look.{Answer, After, answer_in, work_in, inst_in}
 use Rattle.language.specs.Check.{Outcome}
 use Rattle.catalog.specs.declared.plan.Plan.{Plan}
+use Rattle.std.proofs.Common.{Result, Ok, Err}
+use Rattle.text.specs.Refusals.{packed_refusal}
+use Rattle.text.specs.declared.refusal.Refusal.{Refusal}
 use Rattle.checker.specs.Plans.{Plans}
 use Rattle.look.specs.Looks.{answer_of}
 use Rattle.language.specs.LookOf.{look_of}
 use Rattle.look.specs.declared.Answer.{Answer as Answered}
-use Rattle.look.specs.declared.Answer.TheVariants.{Case, NoCase, Spent, Refused}
+use Rattle.look.specs.declared.Answer.TheVariants.{Case, NoCase, Spent}
 use Rattle.language.proofs.RealLooks.{refused-unchanged}
 use Rattle.export.specs.Answers.{check_answer, payload_count, look_answer, Looks}
 
 -- ---- a check
 
-pub answer-of : (o : Outcome) (p : Plan) → Plans o p → p.number * 65536 + p.line ≡ check_answer o
-answer-of (Outcome.refused n line) p h = ap₂ (λ a b. a * 65536 + b) h.0 h.1
-answer-of (Outcome.accepted F) p h = ap₂ (λ a b. a * 65536 + b) h.number h.line
+pub answer-accepted : (o : Outcome) (p : Plan) → Plans o (Ok p) → 0 ≡ check_answer o
+answer-accepted (Outcome.refused n line) p h = absurd h
+answer-accepted (Outcome.accepted F) p h = refl
+
+pub answer-refused : (o : Outcome) (x : Refusal) → Plans o (Err x) → packed_refusal x ≡ check_answer o
+answer-refused (Outcome.refused n line) x h = ap₂ (λ a b. a * 65536 + b) h.0 h.1
+answer-refused (Outcome.accepted F) x h = absurd h
 
 -- ---- a look
 
-module _ {a : Answered} where
-  pub told-case : {k : ℕ} → a ≡ Case k → 0x80 * payload_count + k % payload_count ≡ look_answer (answer_of a)
+module _ {a : Result Answered Refusal} where
+  pub told-case : {k : ℕ} {x : Answered} → a ≡ Ok x → x ≡ Case k → 0x80 * payload_count + k % payload_count ≡ look_answer (answer_of a)
   unfolding look_answer
-  told-case {k} e = rw e
+  told-case {k} e f = rw (e, f)
 
-  pub told_none : a ≡ NoCase → 0x82 * payload_count ≡ look_answer (answer_of a)
+  pub told_none : {x : Answered} → a ≡ Ok x → x ≡ NoCase → 0x82 * payload_count ≡ look_answer (answer_of a)
   unfolding look_answer
-  told_none e = rw e
+  told_none e f = rw (e, f)
 
-  pub told-spent : {next : ℕ} → a ≡ Spent next → next % payload_count ≡ look_answer (answer_of a)
+  pub told-spent : {next : ℕ} {x : Answered} → a ≡ Ok x → x ≡ Spent next → next % payload_count ≡ look_answer (answer_of a)
   unfolding look_answer
-  told-spent {next} e = rw e (omega arith)
+  told-spent {next} e f = rw (e, f) (omega arith)
 
-  pub told-refused : {n l : ℕ} → a ≡ Refused n l → n < 256 → l < 65536 → 0x8f * payload_count + (n * 65536 + l) ≡ look_answer (answer_of a)
+  pub told-refused : {x : Refusal} {n : ℕ} → a ≡ Err x → n ≡ packed_refusal x → n < 2 ^ 32 → 0x8f * payload_count + n ≡ look_answer (answer_of a)
   unfolding look_answer
-  told-refused {n} {l} e p q = rw e (omega arith)
+  told-refused {x} {n} e p l = rw e (omega arith)
 
 -- the number of an answer is in the upper bits
 number_of : (a : Answer) → look_answer a / payload_count ≡ 0x8f → (n : ℕ) × (l : ℕ) × (a ≡ Answer.refused n l)

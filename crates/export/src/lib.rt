@@ -12,6 +12,7 @@ use checker::plan;
 use look;
 use look::Answer;
 use sentences;
+use text::refusal::Refusal;
 
 // So many different payloads stand in 56 bits.
 const PAYLOAD_COUNT: u64 = 0x100_0000_0000_0000;
@@ -22,19 +23,21 @@ const PAYLOAD_COUNT: u64 = 0x100_0000_0000_0000;
 pub extern "C" fn sakthveim_check(text: &[u8]) -> u32
     ensures { result ≡ check_answer (file_of text.now) }
 {
-    let p = plan::check(text);
-    (p.number as u32) * 65536 + (p.line as u32)
+    match plan::check(text) {
+        Ok(_) => 0,
+        Err(refusal) => refusal.packed(),
+    }
 }
 
 // An answer as one number.
-fn told(a: Answer) -> u64
+fn told(a: Result<Answer, Refusal>) -> u64
     ensures { result ≡ look_answer (answer_of a) }
 {
     match a {
-        Answer::Case(k) => 0x80 * PAYLOAD_COUNT + k % PAYLOAD_COUNT,
-        Answer::NoCase => 0x82 * PAYLOAD_COUNT,
-        Answer::Spent(next) => next % PAYLOAD_COUNT,
-        Answer::Refused(n, l) => 0x8f * PAYLOAD_COUNT + ((n as u64) * 65536 + (l as u64)),
+        Ok(Answer::Case(k)) => 0x80 * PAYLOAD_COUNT + k % PAYLOAD_COUNT,
+        Ok(Answer::NoCase) => 0x82 * PAYLOAD_COUNT,
+        Ok(Answer::Spent(next)) => next % PAYLOAD_COUNT,
+        Err(refusal) => 0x8f * PAYLOAD_COUNT + (refusal.packed() as u64),
     }
 }
 

@@ -40,6 +40,7 @@ pub fn read<R: Read>(from: &mut R, text: &mut [u8]) -> io::Result<Input>
 {
     let room = text.len();
     let mut done = 0;
+    // (no `for`: how far a turn goes is the reader's answer)
     while done < room {
         let input = next(from.read(&mut text[done..]), done, room)?;
         let Input::More(n) = input else {

@@ -6,7 +6,8 @@ use mathlib.Core.Bool.{Bool, true}
 use mathlib.Core.List.{List}
 use Prim.Native.Nat.{ℕ, ◌≤◌}
 use lib.IntN.{ℤ}
-use lib.ListN.{length, replicate}
+use lib.ListN.{length, replicate, take}
+use Rattle.std.proofs.Common.{Ok}
 use Rattle.value.proofs.Decides.{dec-true, true-dec}
 use Rattle.meaning.specs.Syntax.{File}
 use Rattle.meaning.specs.Algebra.{MeaningOf}
@@ -26,7 +27,8 @@ use Rattle.store.specs.Layout.{area}
 use Rattle.cases.specs.declared.needs.Needs.{Needs}
 use Rattle.cases.specs.Needs.{Wants, NeedsOf}
 use Rattle.cases.specs.Judgement.{Memory, memory_from}
-use Rattle.look.specs.Cells.{CellsOf}
+use Rattle.look.specs.declared.cells.Cell.{Cell}
+use Rattle.look.specs.Cells.{no_cell, CellsOf}
 use Rattle.look.specs.Moves.{places_from, CandidatePut, Moved}
 use Rattle.look.specs.Scans.{Setting}
 use Rattle.look.specs.Evaluations.{Prepared, Evaluated, Judged, RowsMean}
@@ -37,14 +39,14 @@ module _ (text : List ℕ) (F : File) (e : file_of text ≡ Outcome.accepted F) 
   well-formed : well_formed F ≡ true
   well-formed = (accepted-text text F e).well-formed
 
-  planned : {p : Plan} → Plans (file_of text) p → PlanOf F p
-  planned {p} c = subst (λ out. Plans out p) e c
+  planned : {p : Plan} → Plans (file_of text) (Ok p) → PlanOf F p
+  planned {p} c = subst (λ out. Plans out (Ok p)) e c
 
   -- any candidate is prepared by the calls of a look up to its first test
-  pub placed : (p : Plan) {k : ℕ} {codes counts : List ℕ} {needs : Needs} {n : ℕ} {work work' : List ℤ} → Plans (file_of text) p
-      → CellsOf p.shape p.outline.tables (replicate 512 0) n codes → TablesCounted p.shape p.outline.tables (replicate 16 0) counts
+  pub placed : (p : Plan) {k : ℕ} {room : List Cell} {counts : List ℕ} {needs : Needs} {n : ℕ} {work work' : List ℤ} → Plans (file_of text) (Ok p)
+      → CellsOf p.shape p.outline.tables (replicate 512 no_cell) n room → TablesCounted p.shape p.outline.tables (replicate 16 0) counts
       → NeedsOf (source_of p) p.goal needs
-      → area ≤ length work → CandidatePut (places_from p.shape p.ends codes n) k work work' → Prepared text F k
+      → area ≤ length work → CandidatePut (places_from p.shape p.ends (take n room)) k work work' → Prepared text F k
   placed p {counts = counts} {needs} {work' = work'} c D C N whole P =
       let M = (planned c).file in
       record {
@@ -64,8 +66,8 @@ module _ (text : List ℕ) (F : File) (e : file_of text ≡ Outcome.accepted F) 
     set-up = setting plan-of.file plan-of.goal P.flagged
 
     -- the next candidate is prepared by the test of this one and the move to that one
-    pub moved : {r : Bool} {codes : List ℕ} {n next : ℕ} {memory' : Memory} {work'' : List ℤ} → CellsOf P.plan.shape P.plan.outline.tables (replicate 512 0) n codes
-        → Judged P r memory' → Moved (places_from P.plan.shape P.plan.ends codes n) k next memory'.work work'' → Prepared text F next
+    pub moved : {r : Bool} {room : List Cell} {n next : ℕ} {memory' : Memory} {work'' : List ℤ} → CellsOf P.plan.shape P.plan.outline.tables (replicate 512 no_cell) n room
+        → Judged P r memory' → Moved (places_from P.plan.shape P.plan.ends (take n room)) k next memory'.work work'' → Prepared text F next
     moved {memory' = memory'} {work''} D J M = record {
       plan = P.plan;
       needs = P.needs;

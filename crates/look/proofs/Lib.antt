@@ -1,6 +1,6 @@
 -- The laws, lowest first.
 -- the cells of a candidate
-pub mod CodeLaws
+pub mod CellLaws
 pub mod Standing
 -- from candidate to candidate
 pub mod Distinct

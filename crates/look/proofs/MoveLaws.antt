@@ -2,52 +2,46 @@
 use mathlib.Core.Path.{◌≡◌, refl, sym, ap, ap₂, ◌∙◌, subst}
 use mathlib.Core.List.{List, [], ◌∷◌, ◌++◌}
 use Prim.Native.Nat.{ℕ, suc, ◌-◌, ◌/◌, ◌%◌, ◌≤◌, ◌<◌}
-use native.Mathlib.Nat.{mod-eq_of_lt, mod-lt, div-one}
+use native.Mathlib.Nat.{mod-lt, div-one}
 use native.Mathlib.Omega.{arith}
 use lib.IntN.{ℤ}
 use lib.ListN.{length, get_or, set, take, drop, take-append-drop, drop_of_length-le}
-use lib.Seq.{get_or-take, take-set-le, take-take}
+use lib.Seq.{take-set-le, take-take}
 use mir.Syntax.{w32}
 use mir.Val.{Fits}
 use Rattle.value.specs.Value.{Value, Column, size, digit, narrowed}
 use Rattle.meaning.specs.Syntax.{File}
 use Rattle.meaning.specs.Candidates.{cell_columns, sizes_product, values, cells}
 use Rattle.meaning.proofs.ListSteps.{map_at}
-use Rattle.catalog.specs.Arrays.{column_at}
 use Rattle.catalog.proofs.FileLaws.{no_column}
 use Rattle.store.specs.Layout.{area, put_cell}
 use Rattle.meaning.proofs.Listed.{drop-set}
 use Rattle.store.proofs.RowLaws.{only_same, only-more, only_wider, only-put-cell}
-use Rattle.look.specs.Cells.{codes_of, cells_in, CodedTable}
-use Rattle.look.specs.Moves.{code_column, CellPlaces, Digits, OnlyCoded, DigitPut, Moved}
+use Rattle.look.specs.declared.cells.Cell.{Cell}
+use Rattle.look.specs.Cells.{no_cell, file_cells, cells_in, CellTable}
+use Rattle.look.specs.Moves.{cell_column, CellPlaces, Digits, OnlyTables, DigitPut, Moved}
 use Rattle.look.specs.declared.moves.Quotients.{Quotients}
-use Rattle.look.proofs.Distinct.{codes-rise, rising-within, cell-put}
+use Rattle.look.proofs.Distinct.{cells-rise, cell-put}
 use Rattle.look.proofs.DigitLaws.{same-leading, drop-values, values-step, quotient-step, column-legal, legal-size, digit-held}
-
--- ---- the column of a cell
-
-pub column-found : (shape : List ℕ) (ends : List ℤ) (x : ℕ) {d : Column} → d ≡ column_at shape ends (x / 32 % 256) (x % 4) → x < 512
-    → d ≡ code_column shape ends x
-column-found shape ends x e h = e ∙ ap (λ (t : ℕ). column_at shape ends t (x % 4)) (mod-eq_of_lt (omega arith))
 
 -- ---- one digit
 
-module _ {shape : List ℕ} {ends : List ℤ} {x : ℕ} {q : Quotients} {work : List ℤ} (d : Column) (found : x < 512 → d ≡ code_column shape ends x) where
+module _ {shape : List ℕ} {ends : List ℤ} {x : Cell} {q : Quotients} {work : List ℤ} (d : Column) (found : d ≡ cell_column shape ends x) where
   -- no column is without digits
   pub none-put : size d ≡ 0 → DigitPut shape ends x q work q work
   none-put z = record {
     only = only_same work;
-    put = λ c h e s. let p : size c ≡ 0 = ap size (sym (found h ∙ e)) ∙ z in absurd (omega arith);
+    put = λ c e s. let p : size c ≡ 0 = ap size (sym e ∙ sym found) ∙ z in absurd (omega arith);
   }
 
-  pub digit-put : {work' : List ℤ} (s : ℕ) (v : Value) → s ≡ size d → v ≡ narrowed (digit d (q.new % s)) → work' ≡ put_cell work (x / 32) (x / 4 % 8) (x % 4) v
+  pub digit-put : {work' : List ℤ} (s : ℕ) (v : Value) → s ≡ size d → v ≡ narrowed (digit d (q.new % s)) → work' ≡ put_cell work x.table x.row x.column v
       → DigitPut shape ends x q work (record { old = q.old / s; new = q.new / s }) work'
   digit-put s v k w p = record {
-    only = rw p (only-put-cell work (x / 32) (x / 4 % 8) (x % 4) v refl);
-    put = λ c h e o.
-        let f : d ≡ c = found h ∙ e in
+    only = rw p (only-put-cell work x.table x.row x.column v refl);
+    put = λ c e o.
+        let f : d ≡ c = found ∙ e in
         let z : s ≡ size c = k ∙ ap size f in (
-          p ∙ ap (put_cell work (x / 32) (x / 4 % 8) (x % 4)) (w ∙ ap₂ (λ (a : Column) (b : ℕ). narrowed (digit a (q.new % b))) f z),
+          p ∙ ap (put_cell work x.table x.row x.column) (w ∙ ap₂ (λ (a : Column) (b : ℕ). narrowed (digit a (q.new % b))) f z),
           ap (λ (b : ℕ). q.old / b) z,
           ap (λ (b : ℕ). q.new / b) z,
         );
@@ -59,7 +53,7 @@ digit-fits n s z f = let l : n % s < s = mod-lt n (omega arith) in record { fits
 
 -- ---- the cells from the last one back
 
-length-cells_in : (work : List ℤ) (xs : List ℕ) → length (cells_in work xs) ≡ length xs
+length-cells_in : (work : List ℤ) (xs : List Cell) → length (cells_in work xs) ≡ length xs
 unfolding cells_in
 length-cells_in work [] = refl
 length-cells_in work (x ∷ xs) = ap suc (length-cells_in work xs)
@@ -68,23 +62,23 @@ length-cells_in work (x ∷ xs) = ap suc (length-cells_in work xs)
 pub record Going (F : File) (k next : ℕ) (before : List Value) (work : List ℤ) (j : ℕ) (q : Quotients) : Type 0 where
   pub old : q.old ≡ k / sizes_product (drop j (cell_columns F.tables))
   pub new : q.new ≡ next / sizes_product (drop j (cell_columns F.tables))
-  pub first : take j (cells_in work (codes_of F)) ≡ take j before
-  pub rest : drop j (cells_in work (codes_of F)) ≡ values (drop j (cell_columns F.tables)) next
+  pub first : take j (cells_in work (file_cells F)) ≡ take j before
+  pub rest : drop j (cells_in work (file_cells F)) ≡ values (drop j (cell_columns F.tables)) next
 
 pub record Under (p : CellPlaces) (k next : ℕ) (work₀ work : List ℤ) (j : ℕ) (q : Quotients) : Type 0 where
-  pub only : OnlyCoded p work₀ work
-  pub bound : j ≤ p.cells
-  pub going : (F : File) → Digits F p → area ≤ length work₀ → Going F k next (cells_in work₀ (codes_of F)) work j q
+  pub only : OnlyTables p work₀ work
+  pub bound : j ≤ length p.cells
+  pub going : (F : File) → Digits F p → area ≤ length work₀ → Going F k next (cells_in work₀ (file_cells F)) work j q
 
 -- no cell yet
 going-first : {p : CellPlaces} (k next : ℕ) (work₀ : List ℤ) (F : File) → Digits F p
-    → Going F k next (cells_in work₀ (codes_of F)) work₀ p.cells (record { old = k; new = next })
+    → Going F k next (cells_in work₀ (file_cells F)) work₀ (length p.cells) (record { old = k; new = next })
 going-first {p} k next work₀ F D =
-    let n = p.cells in
+    let n = length p.cells in
     let cs = cell_columns F.tables in
     let e : drop n cs ≡ [] = drop_of_length-le cs {i = n} (omega (arith, D.number)) in
-    let f : drop n (cells_in work₀ (codes_of F)) ≡ [] =
-    drop_of_length-le (cells_in work₀ (codes_of F)) {i = n} (omega (arith, length-cells_in work₀ (codes_of F), D.codes-are.number)) in
+    let f : drop n (cells_in work₀ (file_cells F)) ≡ [] =
+    drop_of_length-le (cells_in work₀ (file_cells F)) {i = n} (omega (arith, length-cells_in work₀ (file_cells F), ap length D.cells-are)) in
     record {
       old = sym (ap (λ (l : List Column). k / sizes_product l) e ∙ div-one k);
       new = sym (ap (λ (l : List Column). next / sizes_product l) e ∙ div-one next);
@@ -94,24 +88,23 @@ going-first {p} k next work₀ F D =
 
 -- one cell more
 going_next : {p : CellPlaces} {k next : ℕ} (F : File) {before : List Value} {work work' : List ℤ} {i : ℕ} {q r : Quotients}
-    → Digits F p → i < p.cells → area ≤ length work
-    → Going F k next before work (suc i) q → DigitPut p.shape p.ends (get_or p.codes i 0) q work r work' → Going F k next before work' i r
+    → Digits F p → i < length p.cells → area ≤ length work
+    → Going F k next before work (suc i) q → DigitPut p.shape p.ends (get_or p.cells i no_cell) q work r work' → Going F k next before work' i r
 going_next {p} {k} {next} F {before} {work} {work'} {i} {q} {r} D h a g put =
     let shape = p.shape in
     let ends = p.ends in
-    let codes = p.codes in
-    let xs = codes_of F in
+    let xs = file_cells F in
     let cs = cell_columns F.tables in
     let c = get_or cs i no_column in
-    let x = get_or xs i 0 in
-    let R = codes-rise F D.legal in
-    let lx : i < length xs = omega (arith, D.codes-are.number) in
+    let x = get_or xs i no_cell in
+    let R = cells-rise F D.legal in
+    let lx : i < length xs = omega (arith, ap length D.cells-are) in
     let lc : i < length cs = omega (arith, D.number) in
     let L = column-legal F D.legal i lc in
-    let ex : get_or codes i 0 ≡ x = sym (get_or-take p.cells codes i 0 h) ∙ ap (λ (l : List ℕ). get_or l i 0) D.codes-are.there in
-    let P : DigitPut shape ends x q work r work' = subst (λ (y : ℕ). DigitPut shape ends y q work r work') ex put in
-    let ec : code_column shape ends x ≡ c = sym (map_at (code_column shape ends) xs i 0 no_column lx) ∙ ap (λ (l : List Column). get_or l i no_column) D.columns in
-    let d = P.put c (rising-within R i lx).1 ec (legal-size c L) in
+    let ex : get_or p.cells i no_cell ≡ x = ap (λ (l : List Cell). get_or l i no_cell) D.cells-are in
+    let P : DigitPut shape ends x q work r work' = subst (λ (y : Cell). DigitPut shape ends y q work r work') ex put in
+    let ec : cell_column shape ends x ≡ c = sym (map_at (cell_column shape ends) xs i no_cell no_column lx) ∙ ap (λ (l : List Column). get_or l i no_column) D.columns in
+    let d = P.put c ec (legal-size c L) in
     let ev : narrowed (digit c (q.new % size c)) ≡ digit c (next / sizes_product (drop (suc i) cs) % size c) =
     digit-held c L q.new ∙ ap (λ (m : ℕ). digit c (m % size c)) g.new in
     let v = digit c (next / sizes_product (drop (suc i) cs) % size c) in
@@ -128,38 +121,38 @@ going_next {p} {k} {next} F {before} {work} {work'} {i} {q} {r} D h a g put =
 
 -- no cell is left
 all_there : {k next : ℕ} (F : File) {before : List Value} {work : List ℤ} {j : ℕ} {q : Quotients}
-    → j ≡ 0 → Going F k next before work j q → cells_in work (codes_of F) ≡ cells F next
+    → j ≡ 0 → Going F k next before work j q → cells_in work (file_cells F) ≡ cells F next
 unfolding cells
 all_there {k} {next} F {before} {work} {j} {q} z g = (subst (λ (i : ℕ). Going F k next before work i q) z g).rest
 
 -- the cells before are the same
 rest-there : {k next : ℕ} (F : File) {work : List ℤ} {j : ℕ} {q : Quotients}
-    → q.old ≡ q.new → Going F k next (cells F k) work j q → cells_in work (codes_of F) ≡ cells F next
+    → q.old ≡ q.new → Going F k next (cells F k) work j q → cells_in work (file_cells F) ≡ cells F next
 unfolding cells
 rest-there {k} {next} F {work} {j} {q} e g =
     let cs = cell_columns F.tables in
-    let l = cells_in work (codes_of F) in
+    let l = cells_in work (file_cells F) in
     sym (take-append-drop j l)
     ∙ ap₂ (λ (a b : List Value). a ++ b) (g.first ∙ same-leading cs j k next (sym g.old ∙ e ∙ g.new)) (g.rest ∙ sym (drop-values cs j next))
     ∙ take-append-drop j (values cs next)
 
 module _ {p : CellPlaces} {k next : ℕ} {work₀ : List ℤ} where
-  pub under_first : Under p k next work₀ work₀ p.cells (record { old = k; new = next })
+  pub under_first : Under p k next work₀ work₀ (length p.cells) (record { old = k; new = next })
   under_first = record { only = only_same work₀; bound = omega arith; going = λ F D a. going-first k next work₀ F D }
 
-  pub under_next : {work work' : List ℤ} {j x : ℕ} {q r : Quotients} → 0 < j → Under p k next work₀ work j q → x ≡ get_or p.codes (j - 1) 0
+  pub under_next : {work work' : List ℤ} {j : ℕ} {x : Cell} {q r : Quotients} → 0 < j → Under p k next work₀ work j q → x ≡ get_or p.cells (j - 1) no_cell
       → DigitPut p.shape p.ends x q work r work' → Under p k next work₀ work' (j - 1) r
   under_next {work} {work'} {j} {x} {q} {r} h u e put =
-      let b : j ≤ p.cells = u.bound in
+      let b : j ≤ length p.cells = u.bound in
       let s : j ≡ suc (j - 1) = omega arith in
-      let P : DigitPut p.shape p.ends (get_or p.codes (j - 1) 0) q work r work' = subst (λ (y : ℕ). DigitPut p.shape p.ends y q work r work') e put in
-      let own : (t : ℕ) → t ≡ x / 32 → CodedTable p.codes p.cells t =
-      λ t k. record { cell = j - 1; there = omega arith; table = ap (λ (y : ℕ). y / 32) (sym e) ∙ sym k } in
+      let P : DigitPut p.shape p.ends (get_or p.cells (j - 1) no_cell) q work r work' = subst (λ (y : Cell). DigitPut p.shape p.ends y q work r work') e put in
+      let own : (t : ℕ) → t ≡ x.table → CellTable p.cells t =
+      λ t k. record { place = j - 1; there = omega arith; table_is = ap (λ (y : Cell). y.table) (sym e) ∙ sym k } in
       record {
         only = only-more u.only (only_wider own put.only);
         bound = omega arith;
         going = λ F D a. going_next F D (omega arith) (omega (arith, u.only.size))
-            (subst (λ (i : ℕ). Going F k next (cells_in work₀ (codes_of F)) work i q) s (u.going F D a)) P;
+            (subst (λ (i : ℕ). Going F k next (cells_in work₀ (file_cells F)) work i q) s (u.going F D a)) P;
       }
 
   pub moved_all : {work : List ℤ} {j : ℕ} {q : Quotients} → j ≤ 0 → Under p k next work₀ work j q

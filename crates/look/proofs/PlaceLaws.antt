@@ -1,12 +1,12 @@
 -- The first placing of a candidate, row by row from the last row back. Assumes nothing.
 use mathlib.Core.Path.{◌≡◌, refl, sym, ap, ap₂, subst, ◌∙◌}
 use mathlib.Core.List.{List, [], ◌∷◌, ◌++◌, map, map-append, append_assoc, append-nil}
-use Prim.Native.Nat.{ℕ, zero, suc, ◌+◌, ◌*◌, ◌-◌, ◌/◌, ◌%◌, ◌≤◌, ◌<◌}
-use native.Mathlib.Nat.{mul_assoc, one-mul, div-one, mod-eq_of_lt}
+use Prim.Native.Nat.{ℕ, zero, suc, ◌+◌, ◌*◌, ◌-◌, ◌/◌, ◌%◌, ◌≤◌, ◌<◌, min}
+use native.Mathlib.Nat.{mul_assoc, one-mul, div-one}
 use native.Mathlib.Omega.{arith}
 use lib.IntN.{ℤ}
 use lib.ListN.{length, get_or, drop, length-append, length-map, drop_of_length-le, get_or-append}
-use lib.Seq.{get_or-append-add, get_or-take}
+use lib.Seq.{get_or-append-add}
 use Rattle.value.specs.Bag.{All}
 use Rattle.value.proofs.Values.{all_map}
 use Rattle.value.specs.Value.{Value, Column, size, digit, narrowed}
@@ -22,12 +22,14 @@ use Rattle.store.specs.Rows.{row_of, with_value, put_row}
 use Rattle.store.specs.declared.Row.{Row as Values}
 use Rattle.meaning.proofs.Listed.{get_d-listed}
 use Rattle.store.proofs.RowLaws.{row-of-length, with-from, put-row, put_keeps, only_same, only-more, only-put-row}
-use Rattle.look.specs.Cells.{code, row_codes, table_codes, all_codes, codes_of, cell_at, cells_in}
-use Rattle.look.specs.Moves.{code_column, CellPlaces, Digits, OnlyCoded, TakesRow, CandidatePut}
+use Rattle.look.specs.declared.cells.Cell.{Cell}
+use Rattle.look.specs.Cells.{cell_of, no_cell, row_cells, table_cells, all_cells, file_cells, cell_at, cells_in}
+use Rattle.look.specs.Moves.{cell_column, CellPlaces, Digits, OnlyTables, TakesRow, CandidatePut}
 use Rattle.look.specs.declared.moves.TakenRow.{TakenRow}
-use Rattle.look.proofs.CodeLaws.{length-row}
+use Rattle.look.proofs.CellLaws.{length-row}
+use Rattle.look.proofs.Distinct.{rank_of, rank}
 use Rattle.look.proofs.DigitLaws.{div-product, values-step, quotient-step, columns-legal, legal-size, digit-held}
-use Rattle.look.proofs.Standing.{code-table, code_row, code-column, all_listed, row-cells}
+use Rattle.look.proofs.Standing.{all_listed, row-cells}
 
 -- ---- the digits of one row, from the last column back
 
@@ -95,33 +97,33 @@ module _ {shape : List ℕ} {ends : List ℤ} {table width q : ℕ} where
         (subst (λ j. Taking shape ends table width q j row left) z T).taken cs (record { number = n; few = few; column = column; sized = sized });
   }
 
--- ---- the codes of whole rows
+-- ---- the cells of whole rows
 
 -- below `high`, each row behind those before it
-pub data WholeRows : List ℕ → ℕ → Type 0 where
+pub data WholeRows : List Cell → ℕ → Type 0 where
   none : {high : ℕ} → WholeRows [] high
-  more : {xs ys : List ℕ} {high : ℕ} (t i w : ℕ) → WholeRows ys (code t i 0) → 0 < w → w ≤ 4 → i < 8 → code t i 4 ≤ high → xs ≡ ys ++ row_codes t i w
+  more : {xs ys : List Cell} {high : ℕ} (t i w : ℕ) → WholeRows ys (rank_of t i 0) → 0 < w → w ≤ 4 → i < 8 → rank_of t i 4 ≤ high → xs ≡ ys ++ row_cells t i w
       → WholeRows xs high
 
-rows-to : {xs : List ℕ} {high high' : ℕ} → high ≤ high' → WholeRows xs high → WholeRows xs high'
+rows-to : {xs : List Cell} {high high' : ℕ} → high ≤ high' → WholeRows xs high → WholeRows xs high'
 rows-to h WholeRows.none = WholeRows.none
 rows-to {high = high} {high'} h (WholeRows.more t i w r a b c d e) = WholeRows.more {high = high'} t i w r a b c (omega arith) e
 
-table-whole : (t w n : ℕ) (xs : List ℕ) → WholeRows xs (t * 32) → 0 < w → w ≤ 4 → n ≤ 8 → WholeRows (xs ++ table_codes t w n) (code t n 0)
-unfolding table_codes
+table-whole : (t w n : ℕ) (xs : List Cell) → WholeRows xs (t * 32) → 0 < w → w ≤ 4 → n ≤ 8 → WholeRows (xs ++ table_cells t w n) (rank_of t n 0)
+unfolding table_cells
 table-whole t w zero xs r a b h = rw (append-nil xs) (rows-to (omega arith) r)
 table-whole t w (suc n) xs r a b h =
-    WholeRows.more {high = code t (suc n) 0} t n w (table-whole t w n xs r a b (omega arith)) a b (omega arith) (omega arith) (sym (append_assoc xs (table_codes t w n) (row_codes t n w)))
+    WholeRows.more {high = rank_of t (suc n) 0} t n w (table-whole t w n xs r a b (omega arith)) a b (omega arith) (omega arith) (sym (append_assoc xs (table_cells t w n) (row_cells t n w)))
 
-all_whole : (rows columns : ℕ → ℕ) (n : ℕ) → ((t : ℕ) → t < n → (rows t ≤ 8) × (0 < columns t) × (columns t ≤ 4)) → WholeRows (all_codes rows columns n) (n * 32)
-unfolding all_codes
+all_whole : (rows columns : ℕ → ℕ) (n : ℕ) → ((t : ℕ) → t < n → (rows t ≤ 8) × (0 < columns t) × (columns t ≤ 4)) → WholeRows (all_cells rows columns n) (n * 32)
+unfolding all_cells
 all_whole rows columns zero h = WholeRows.none
 all_whole rows columns (suc n) h =
     let (few, some, most) = h n (omega arith) in
-    rows-to (omega arith) (table-whole n (columns n) (rows n) (all_codes rows columns n) (all_whole rows columns n (λ t l. h t (omega arith))) some most few)
+    rows-to (omega arith) (table-whole n (columns n) (rows n) (all_cells rows columns n) (all_whole rows columns n (λ t l. h t (omega arith))) some most few)
 
-file-whole : (F : File) → Legal F → WholeRows (codes_of F) 512
-unfolding codes_of
+file-whole : (F : File) → Legal F → WholeRows (file_cells F) 512
+unfolding file_cells
 file-whole F L = rows-to (omega (arith, L.relation_count))
     (all_whole (λ t. (table_at F.tables t).rows) (λ t. length (table_at F.tables t).columns) (length F.tables)
     (λ t l. let p : LegalTable (table_at F.tables t) = all-at L.tables (record { rows = 0; columns = []; key = [] }) t l in
@@ -146,62 +148,68 @@ held (c ∷ cs) k (All.cons h hs) = ap₂ (λ (v : Value) (l : List Value). v �
 
 -- ---- the rows from the last one back
 
+-- a cell behind those before rank `high`
+pub record Above (high : ℕ) (y : Cell) : Type 0 where
+  pub from : high ≤ rank y
+  pub column : y.column < 4
+
 -- the cells of zs are those of candidate k, and those of ys are left
 pub record Placing (F : File) (p : CellPlaces) (k : ℕ) (work : List ℤ) (j left : ℕ) : Type 0 where
-  pub ys : List ℕ
-  pub zs : List ℕ
+  pub ys : List Cell
+  pub zs : List Cell
   pub high : ℕ
-  pub split : codes_of F ≡ ys ++ zs
+  pub split : file_cells F ≡ ys ++ zs
   pub number : length ys ≡ j
   pub whole : WholeRows ys high
   pub top : high ≤ 512
-  pub above : All (λ y. high ≤ y) zs
-  pub left_is : left ≡ k / sizes_product (map (code_column p.shape p.ends) zs)
-  pub there : cells_in work zs ≡ values (map (code_column p.shape p.ends) zs) k
+  pub above : All (Above high) zs
+  pub left_is : left ≡ k / sizes_product (map (cell_column p.shape p.ends) zs)
+  pub there : cells_in work zs ≡ values (map (cell_column p.shape p.ends) zs) k
 
 pub record Placed (p : CellPlaces) (k : ℕ) (work₀ work : List ℤ) (j left : ℕ) : Type 0 where
-  pub only : OnlyCoded p work₀ work
-  pub bound : j ≤ p.cells
+  pub only : OnlyTables p work₀ work
+  pub bound : j ≤ length p.cells
   pub placing : (F : File) → Digits F p → area ≤ length work₀ → Placing F p k work j left
 
-row-code : (t i w c : ℕ) → c < w → get_or (row_codes t i w) c 0 ≡ code t i c
-unfolding row_codes
-row-code t i w c h = get_d-listed (code t i) w c 0 h
+row-cell : (t i w c : ℕ) → c < w → get_or (row_cells t i w) c no_cell ≡ cell_of t i c
+unfolding row_cells
+row-cell t i w c h = get_d-listed (cell_of t i) w c no_cell h
 
-row-above : (t i w : ℕ) → All (λ y. code t i 0 ≤ y) (row_codes t i w)
-unfolding row_codes
-row-above t i w = all_listed (code t i) w (λ c. omega arith)
+row-above : (t i w : ℕ) → w ≤ 4 → All (Above (rank_of t i 0)) (row_cells t i w)
+unfolding row_cells
+row-above t i w h = all_listed (cell_of t i) w (λ c l. record { from = omega arith; column = omega arith })
 
--- the last row of ys, whose last code is x
-pub record LastRow (F : File) (ys zs : List ℕ) (high x : ℕ) : Type 0 where
-  pub front : List ℕ
+-- the last row of ys, whose last cell is x
+pub record LastRow (F : File) (ys zs : List Cell) (high : ℕ) (x : Cell) : Type 0 where
+  pub front : List Cell
   pub table : ℕ
   pub row : ℕ
   pub width : ℕ
-  pub whole : WholeRows front (code table row 0)
+  pub whole : WholeRows front (rank_of table row 0)
   pub few : width ≤ 4
   pub in_table : row < 8
-  pub under : code table row 4 ≤ high
-  pub split : codes_of F ≡ front ++ (row_codes table row width ++ zs)
+  pub under : rank_of table row 4 ≤ high
+  pub split : file_cells F ≡ front ++ (row_cells table row width ++ zs)
   pub number : length ys ≡ length front + width
-  pub table_is : x / 32 ≡ table
-  pub row_is : x / 4 % 8 ≡ row
-  pub width_is : x % 4 + 1 ≡ width
+  pub table_is : x.table ≡ table
+  pub row_is : x.row ≡ row
+  pub width_is : min (x.column + 1) 255 ≡ width
 
-last_row : (F : File) {p : CellPlaces} → Digits F p → {ys zs : List ℕ} {high j x : ℕ} → WholeRows ys high → codes_of F ≡ ys ++ zs → length ys ≡ j → 0 < j → j ≤ p.cells
-    → x ≡ get_or p.codes (j - 1) 0 → LastRow F ys zs high x
-last_row F D WholeRows.none split number some bound read = absurd (omega arith)
-last_row F {p} D {ys} {zs} {high} {j} {x} (WholeRows.more {ys = front} t i w before least most row under e) split number some bound read =
-    let R = row_codes t i w in
-    let all : codes_of F ≡ front ++ (R ++ zs) = split ∙ ap (λ (l : List ℕ). l ++ zs) e ∙ append_assoc front R zs in
+last_row : (F : File) {p : CellPlaces} → Digits F p → {ys zs : List Cell} {high j : ℕ} {x : Cell} → WholeRows ys high → file_cells F ≡ ys ++ zs → length ys ≡ j → 0 < j
+    → x ≡ get_or p.cells (j - 1) no_cell → LastRow F ys zs high x
+last_row F D WholeRows.none split number some read = absurd (omega arith)
+last_row F {p} D {ys} {zs} {high} {j} {x} (WholeRows.more {ys = front} t i w before least most row under e) split number some read =
+    let R = row_cells t i w in
+    let all : file_cells F ≡ front ++ (R ++ zs) = split ∙ ap (λ (l : List Cell). l ++ zs) e ∙ append_assoc front R zs in
     let total : length ys ≡ length front + w = ap length e ∙ length-append front R ∙ ap (λ n. length front + n) (length-row t i w) in
     let place : j - 1 ≡ length front + (w - 1) = omega arith in
     let last : w - 1 < w = omega arith in
-    let few : w - 1 < 4 = omega arith in
-    let here : x ≡ code t i (w - 1) =
-    read ∙ sym (get_or-take p.cells p.codes (j - 1) 0 (omega arith)) ∙ ap (λ (l : List ℕ). get_or l (j - 1) 0) (D.codes-are.there ∙ all)
-    ∙ ap (λ n. get_or (front ++ (R ++ zs)) n 0) place ∙ get_or-append-add front (R ++ zs) (w - 1) 0 ∙ get_or-append R zs 0 (w - 1) (omega (arith, length-row t i w))
-    ∙ row-code t i w (w - 1) last in
+    let here : x ≡ cell_of t i (w - 1) =
+    read ∙ ap (λ (l : List Cell). get_or l (j - 1) no_cell) (D.cells-are ∙ all)
+    ∙ ap (λ n. get_or (front ++ (R ++ zs)) n no_cell) place ∙ get_or-append-add front (R ++ zs) (w - 1) no_cell
+    ∙ get_or-append R zs no_cell (w - 1) (omega (arith, length-row t i w))
+    ∙ row-cell t i w (w - 1) last in
+    let column : x.column ≡ w - 1 = ap (λ (y : Cell). y.column) here in
     record {
       front = front;
       table = t;
@@ -213,44 +221,48 @@ last_row F {p} D {ys} {zs} {high} {j} {x} (WholeRows.more {ys = front} t i w bef
       under = under;
       split = all;
       number = total;
-      table_is = ap (λ n. n / 32) here ∙ code-table t i (w - 1) row few;
-      row_is = ap (λ n. n / 4 % 8) here ∙ code_row t i (w - 1) row few;
-      width_is = ap (λ n. n % 4 + 1) here ∙ ap (λ n. n + 1) (code-column t i (w - 1) few) ∙ omega arith;
+      table_is = ap (λ (y : Cell). y.table) here;
+      row_is = ap (λ (y : Cell). y.row) here;
+      width_is = omega (arith, column);
     }
 
 -- ---- the cells of a row that is put
 
 cells-row : (work : List ℤ) (t i w : ℕ) (row : Row) → t < 16 → i < 8 → w ≤ 4 → area ≤ length work → length row ≡ w
-    → cells_in (put_row work t i w row) (row_codes t i w) ≡ row
+    → cells_in (put_row work t i w row) (row_cells t i w) ≡ row
 unfolding cells_in
 cells-row work t i w row ht hi hw a e =
-    row-cells (put_row work t i w row) t i w hi hw ∙ put-row work t i w row ht (omega arith) (omega arith) a e
+    row-cells (put_row work t i w row) t i w ∙ put-row work t i w row ht (omega arith) (omega arith) a e
 
-cells-others : (work : List ℤ) (t i w : ℕ) (row : Row) {high : ℕ} {zs : List ℕ} → code t i 4 ≤ high → All (λ y. high ≤ y) zs
+cells-others : (work : List ℤ) (t i w : ℕ) (row : Row) {high : ℕ} {zs : List Cell} → rank_of t i 4 ≤ high → All (Above high) zs
     → cells_in (put_row work t i w row) zs ≡ cells_in work zs
 unfolding cells_in cell_at
 cells-others work t i w row {high} h above =
-    map_same _ _ (all_map (λ y (l : high ≤ y). put_keeps work t i w row (y / 32) (y / 4 % 8) (y % 4) (λ a b. omega arith)) above)
+    map_same _ _ (all_map (λ y l. put_keeps work t i w row y.table y.row y.column (λ a b. omega (arith, l.from, l.column))) above)
 
-cells-append : (work : List ℤ) (a b : List ℕ) → cells_in work (a ++ b) ≡ cells_in work a ++ cells_in work b
+cells-append : (work : List ℤ) (a b : List Cell) → cells_in work (a ++ b) ≡ cells_in work a ++ cells_in work b
 unfolding cells_in
 cells-append work a b = map-append (cell_at work) a b
 
 -- ---- one row more
 
-module _ (F : File) {p : CellPlaces} (D : Digits F p) {k : ℕ} {work : List ℤ} {j left x : ℕ} (P : Placing F p k work j left) (some : 0 < j) (bound : j ≤ p.cells)
-    (read : x ≡ get_or p.codes (j - 1) 0) where
-  abbrev column : ℕ → Column
-  column = code_column p.shape p.ends
+module _ (F : File) {p : CellPlaces} (D : Digits F p) {k : ℕ} {work : List ℤ} {j left : ℕ} {x : Cell} (P : Placing F p k work j left) (some : 0 < j)
+    (read : x ≡ get_or p.cells (j - 1) no_cell) where
+  abbrev column : Cell → Column
+  column = cell_column p.shape p.ends
 
   last : LastRow F P.ys P.zs P.high x
-  last = last_row F D P.whole P.split P.number some bound read
+  last = last_row F D P.whole P.split P.number some read
 
-  pub width_fits : x % 4 + 1 ≤ j
+  -- the columns of the last row
+  abbrev columns : ℕ
+  columns = min (x.column + 1) 255
+
+  pub width_fits : columns ≤ j
   width_fits = omega (arith, last.width_is, last.number, P.number)
 
-  module _ {r : TakenRow} {work' : List ℤ} (room : area ≤ length work) (takes : TakesRow p.shape p.ends (x / 32 % 256) (x % 4 + 1) left r)
-      (put : work' ≡ put_row work (x / 32) (x / 4 % 8) (x % 4 + 1) (row_of r.row (x % 4 + 1))) where
+  module _ {r : TakenRow} {work' : List ℤ} (room : area ≤ length work) (takes : TakesRow p.shape p.ends x.table columns left r)
+      (put : work' ≡ put_row work x.table x.row columns (row_of r.row columns)) where
     abbrev t : ℕ
     t = last.table
 
@@ -261,7 +273,7 @@ module _ (F : File) {p : CellPlaces} (D : Digits F p) {k : ℕ} {work : List ℤ
     w = last.width
 
     abbrev own : List Column
-    own = map column (row_codes t i w)
+    own = map column (row_cells t i w)
 
     abbrev behind : List Column
     behind = map column P.zs
@@ -272,73 +284,70 @@ module _ (F : File) {p : CellPlaces} (D : Digits F p) {k : ℕ} {work : List ℤ
     legal : All LegalColumn own
     legal =
         let e : cell_columns F.tables ≡ map column last.front ++ (own ++ behind) =
-        sym D.columns ∙ ap (map column) last.split ∙ map-append column last.front (row_codes t i w ++ P.zs)
-        ∙ ap (λ (l : List Column). map column last.front ++ l) (map-append column (row_codes t i w) P.zs) in
+        sym D.columns ∙ ap (map column) last.split ∙ map-append column last.front (row_cells t i w ++ P.zs)
+        ∙ ap (λ (l : List Column). map column last.front ++ l) (map-append column (row_cells t i w) P.zs) in
         all-before own behind (all-behind (map column last.front) (subst (All LegalColumn) e (columns-legal D.legal.tables)))
 
     taken : (row_of r.row w ≡ map narrowed (values own left)) × (r.left ≡ left / sizes_product own)
     taken =
-        let table_here : x / 32 % 256 ≡ t = ap (λ n. n % 256) last.table_is ∙ mod-eq_of_lt (omega (arith, small)) in
         let T : TakesRow p.shape p.ends t w left r =
-        subst (λ n. TakesRow p.shape p.ends t n left r) last.width_is (subst (λ n. TakesRow p.shape p.ends n (x % 4 + 1) left r) table_here takes) in
+        subst (λ n. TakesRow p.shape p.ends t n left r) last.width_is (subst (λ n. TakesRow p.shape p.ends n columns left r) last.table_is takes) in
         let number = length-row t i w in
-        T.takes own (length-map (row_codes t i w) column ∙ number) (omega (arith, last.few))
-        (λ c h. let few : c < 4 = omega (arith, last.few) in
-        sym (map_at column (row_codes t i w) c 0 no_column (omega arith) ∙ ap column (row-code t i w c h)
-        ∙ ap₂ (λ (a b : ℕ). column_at p.shape p.ends a b) (code-table t i c last.in_table few) (code-column t i c few)))
+        T.takes own (length-map (row_cells t i w) column ∙ number) (omega (arith, last.few))
+        (λ c h. sym (map_at column (row_cells t i w) c no_cell no_column (omega arith) ∙ ap column (row-cell t i w c h)))
         (all_map (λ c h. legal-size c h) legal)
 
     put-there : work' ≡ put_row work t i w (row_of r.row w)
     put-there =
-        put ∙ ap (λ n. put_row work n (x / 4 % 8) (x % 4 + 1) (row_of r.row (x % 4 + 1))) last.table_is
-        ∙ ap (λ n. put_row work t n (x % 4 + 1) (row_of r.row (x % 4 + 1))) last.row_is ∙ ap (λ n. put_row work t i n (row_of r.row n)) last.width_is
+        put ∙ ap (λ n. put_row work n x.row columns (row_of r.row columns)) last.table_is
+        ∙ ap (λ n. put_row work t n columns (row_of r.row columns)) last.row_is ∙ ap (λ n. put_row work t i n (row_of r.row n)) last.width_is
 
-    pub placing-row : Placing F p k work' (j - (x % 4 + 1)) r.left
+    pub placing-row : Placing F p k work' (j - columns) r.left
     placing-row = record {
       ys = last.front;
-      zs = row_codes t i w ++ P.zs;
-      high = code t i 0;
+      zs = row_cells t i w ++ P.zs;
+      high = rank_of t i 0;
       split = last.split;
       number = omega (arith, last.width_is, last.number, P.number);
       whole = last.whole;
       top = omega (arith, small, last.in_table);
-      above = all_append (row-above t i w) (all_map (λ y h. omega (arith, last.under)) P.above);
+      above = all_append (row-above t i w last.few) (all_map (λ y h. record { from = omega (arith, last.under, h.from); column = h.column }) P.above);
       left_is =
           taken.1 ∙ ap (λ n. n / sizes_product own) P.left_is ∙ sym (quotient-append own behind k)
-          ∙ sym (ap (λ (l : List Column). k / sizes_product l) (map-append column (row_codes t i w) P.zs));
+          ∙ sym (ap (λ (l : List Column). k / sizes_product l) (map-append column (row_cells t i w) P.zs));
       there =
-          cells-append work' (row_codes t i w) P.zs
+          cells-append work' (row_cells t i w) P.zs
           ∙ ap₂ (λ (a b : List Value). a ++ b)
-          (ap (λ (l : List ℤ). cells_in l (row_codes t i w)) put-there
+          (ap (λ (l : List ℤ). cells_in l (row_cells t i w)) put-there
           ∙ cells-row work t i w (row_of r.row w) small last.in_table last.few room (row-of-length r.row w)
           ∙ taken.0 ∙ held own left legal ∙ ap (values own) P.left_is)
           (ap (λ (l : List ℤ). cells_in l P.zs) put-there ∙ cells-others work t i w (row_of r.row w) last.under P.above ∙ P.there)
-          ∙ sym (values-append own behind k) ∙ sym (ap (λ (l : List Column). values l k) (map-append column (row_codes t i w) P.zs));
+          ∙ sym (values-append own behind k) ∙ sym (ap (λ (l : List Column). values l k) (map-append column (row_cells t i w) P.zs));
     }
 
 -- no row is left
-all_placed : (F : File) {p : CellPlaces} → Digits F p → {k : ℕ} {work : List ℤ} {left : ℕ} → Placing F p k work 0 left → cells_in work (codes_of F) ≡ cells F k
+all_placed : (F : File) {p : CellPlaces} → Digits F p → {k : ℕ} {work : List ℤ} {left : ℕ} → Placing F p k work 0 left → cells_in work (file_cells F) ≡ cells F k
 unfolding cells
 all_placed F {p} D {k} {work} P =
-    let e : codes_of F ≡ P.zs = P.split ∙ front P.ys P.number in
-    ap (cells_in work) e ∙ P.there ∙ sym (ap (λ (l : List ℕ). values (map (code_column p.shape p.ends) l) k) e) ∙ ap (λ (l : List Column). values l k) D.columns
+    let e : file_cells F ≡ P.zs = P.split ∙ front P.ys P.number in
+    ap (cells_in work) e ∙ P.there ∙ sym (ap (λ (l : List Cell). values (map (cell_column p.shape p.ends) l) k) e) ∙ ap (λ (l : List Column). values l k) D.columns
   where
-    front : (ys : List ℕ) → length ys ≡ 0 → ys ++ P.zs ≡ P.zs
+    front : (ys : List Cell) → length ys ≡ 0 → ys ++ P.zs ≡ P.zs
     front [] e = refl
     front (y ∷ ys) e = absurd (omega arith)
 
 module _ {p : CellPlaces} {k : ℕ} {work₀ : List ℤ} where
-  pub placed-none : Placed p k work₀ work₀ p.cells k
+  pub placed-none : Placed p k work₀ work₀ (length p.cells) k
   unfolding cells_in
   placed-none = record {
     only = only_same work₀;
     bound = omega arith;
     placing = λ F D a. record {
-      ys = codes_of F;
+      ys = file_cells F;
       zs = [];
       high = 512;
-      split = sym (append-nil (codes_of F));
-      number = D.codes-are.number;
+      split = sym (append-nil (file_cells F));
+      number = sym (ap length D.cells-are);
       whole = file-whole F D.legal;
       top = omega arith;
       above = All.nil;
@@ -347,22 +356,24 @@ module _ {p : CellPlaces} {k : ℕ} {work₀ : List ℤ} where
     };
   }
 
-  module _ {work : List ℤ} {j left x : ℕ} (P : Placed p k work₀ work j left) (some : 0 < j) (read : x ≡ get_or p.codes (j - 1) 0) where
-    -- a row of a file has its codes
-    pub placed-short : j < x % 4 + 1 → CandidatePut p k work₀ work
-    placed-short h = record {
-      only = P.only;
-      placed = λ F D a. absurd (omega (arith, width_fits F D (P.placing F D a) some P.bound read));
-    }
+  module _ {work : List ℤ} {j left : ℕ} {x : Cell} (P : Placed p k work₀ work j left) (some : 0 < j) (read : x ≡ get_or p.cells (j - 1) no_cell) where
+    module _ {w : ℕ} (e : w ≡ min (x.column + 1) 255) where
+      -- a row of a file has its cells
+      pub placed-short : j < w → CandidatePut p k work₀ work
+      placed-short h = record {
+        only = P.only;
+        placed = λ F D a. absurd (omega (arith, e, width_fits F D (P.placing F D a) some read));
+      }
 
-    pub placed_row : {r : TakenRow} {work' : List ℤ} → TakesRow p.shape p.ends (x / 32 % 256) (x % 4 + 1) left r
-        → work' ≡ put_row work (x / 32) (x / 4 % 8) (x % 4 + 1) (row_of r.row (x % 4 + 1)) → Placed p k work₀ work' (j - (x % 4 + 1)) r.left
-    placed_row {r} takes put = record {
-      only = only-more P.only (rw put (only-put-row work (x / 32) (x / 4 % 8) (x % 4 + 1) (row_of r.row (x % 4 + 1))
-          (record { cell = j - 1; there = omega (arith, P.bound); table = ap (λ n. n / 32) (sym read) })));
-      bound = omega (arith, P.bound);
-      placing = λ F D a. placing-row F D (P.placing F D a) some P.bound read (omega (arith, P.only.size)) takes put;
-    }
+      pub placed_row : {r : TakenRow} {work' : List ℤ} → TakesRow p.shape p.ends x.table w left r → work' ≡ put_row work x.table x.row w (row_of r.row w)
+          → Placed p k work₀ work' (j - w) r.left
+      placed_row {r} {work'} takes put = record {
+        only = only-more P.only (rw put (only-put-row work x.table x.row w (row_of r.row w)
+            (record { place = j - 1; there = omega (arith, P.bound); table_is = ap (λ (y : Cell). y.table) (sym read) })));
+        bound = omega (arith, P.bound);
+        placing = λ F D a.
+            rw e (placing-row F D (P.placing F D a) some read (omega (arith, P.only.size)) (rw e at takes) (rw e at put));
+      }
 
   pub placed-all : {work : List ℤ} {j left : ℕ} → Placed p k work₀ work j left → j ≤ 0 → CandidatePut p k work₀ work
   placed-all {work} {j} {left} P h = record {

@@ -3,15 +3,12 @@ use mathlib.Core.Path.{◌≡◌, refl, sym, ap, subst, ◌∙◌}
 use mathlib.Core.Logic.{inl, inr}
 use mathlib.Core.Bool.{Bool, true, false}
 use mathlib.Core.List.{List, [], ◌∷◌}
-use Prim.Native.Nat.{ℕ, suc, ◌+◌, ◌-◌, ◌/◌, ◌%◌, ◌≤◌, ◌<◌}
-use native.Mathlib.Nat.{div-lt_iff_lt-mul}
+use Prim.Native.Nat.{ℕ, suc, ◌+◌, ◌-◌, ◌≤◌, ◌<◌}
 use native.Mathlib.Omega.{arith}
-use lib.Dec.{ltb}
 use lib.IntN.{ℤ}
 use lib.ListN.{length, get_or, replicate}
-use borrow.Author.Tests.{ltb-true, ltb-false}
+use Rattle.std.specs.Prelude.{Option, None, Some}
 use Rattle.value.specs.Bag.{All}
-use Rattle.value.proofs.Decides.{by-test}
 use Rattle.value.proofs.Values.{all_map}
 use Rattle.meaning.specs.Syntax.{File, Row}
 use Rattle.meaning.specs.Evaluation.{missing}
@@ -19,6 +16,7 @@ use Rattle.meaning.specs.Decided.{is_case, is_case_at}
 use Rattle.meaning.specs.Candidates.{database}
 use Rattle.meaning.proofs.Demand3.{every-database}
 use Rattle.meaning.proofs.Elements.{map_same}
+use Rattle.meaning.proofs.Stacks.{by-lt}
 use Rattle.meaning.proofs.Seeks.{sought-one}
 use Rattle.language.specs.Legal.{Legal}
 use Rattle.language.proofs.LegalAccepted.{legal-well_formed}
@@ -27,41 +25,40 @@ use Rattle.catalog.specs.declared.outline.Outline.{Outline}
 use Rattle.catalog.specs.declared.plan.Goal.{Goal}
 use Rattle.store.specs.Layout.{area}
 use Rattle.store.proofs.RowLaws.{cell-of-rows, only_same, only-more, only_wider}
-use Rattle.views.proofs.Marking.{never}
 use Rattle.cases.specs.declared.needs.Needs.{Needs}
 use Rattle.cases.specs.Needs.{GoalIn, Covers, NeedsOf}
 use Rattle.cases.specs.Judgement.{Memory, memory_from, Ready, ViewIn, OnlyViews, IsCase}
 use Rattle.cases.proofs.Preparing.{counts-are, table_stays, count-stays}
-use Rattle.look.specs.Cells.{codes_of, cell_at, cells_in}
-use Rattle.look.specs.Moves.{CellPlaces, places_from, Digits, CandidatePut, Moved}
-use Rattle.look.specs.Scans.{places_of, Setting, At, OnlySearched, Tested, Scans, Searched}
-use Rattle.look.specs.declared.scan.Span.{Span}
-use Rattle.look.proofs.Distinct.{Rising, rising-within, codes-inside}
+use Rattle.look.specs.declared.cells.Cell.{Cell}
+use Rattle.look.specs.Cells.{no_cell, file_cells, cell_at, cells_in}
+use Rattle.look.specs.Moves.{CellPlaces, Digits, CandidatePut, Moved}
+use Rattle.look.specs.Scans.{Search, places_of, Setting, At, OnlySearched, Scans, Searched}
+use Rattle.look.proofs.Distinct.{rank, Rising, rising-within, cells-inside}
 use Rattle.look.proofs.Standing.{tables-stand}
 
 -- ---- cells of tables that stay
 
-rising-below : {lo hi : ℕ} {xs : List ℕ} → Rising lo xs hi → All (λ x. x < hi) xs
-rising-below {lo} {hi} {xs} r = all_of xs (λ j h. (rising-within r j h).1)
+rising-below : {lo hi : ℕ} {xs : List Cell} → Rising lo xs hi → All (λ x. rank x < hi) xs
+rising-below {lo} {hi} {xs} r = all_of xs (λ j h. (rising-within r j h).to)
   where
-    all_of : {P : ℕ → Type 0} (xs : List ℕ) → ((j : ℕ) → j < length xs → P (get_or xs j 0)) → All P xs
+    all_of : {P : Cell → Type 0} (xs : List Cell) → ((j : ℕ) → j < length xs → P (get_or xs j no_cell)) → All P xs
     all_of [] h = All.nil
     all_of (x ∷ xs) h = All.cons (h 0 (omega arith)) (all_of xs (λ j l. h (suc j) (omega arith)))
 
 module _ {F : File} (L : Legal F) where
-  codes-tables : All (λ x. x / 32 < length F.tables) (codes_of F)
-  codes-tables = all_map (λ x h. (div-lt_iff_lt-mul (omega arith)).1 h) (rising-below (codes-inside F L))
+  cells-tables : All (λ x. x.table < length F.tables) (file_cells F)
+  cells-tables = all_map (λ x h. omega arith) (rising-below (cells-inside F L))
 
   pub cells-kept : {o : Outline} {memory memory' : Memory} → o.tables ≡ length F.tables → OnlyViews o memory memory'
-      → cells_in memory'.work (codes_of F) ≡ cells_in memory.work (codes_of F)
+      → cells_in memory'.work (file_cells F) ≡ cells_in memory.work (file_cells F)
   unfolding cells_in cell_at
   cells-kept {o} {memory} {memory'} n k = map_same _ _ (all_map (λ x h.
-      let t = x / 32 in
-      let i = x / 4 % 8 in
-      let c = x % 4 in
+      let t = x.table in
+      let i = x.row in
+      let c = x.column in
       sym (cell-of-rows memory'.work t (suc c) (suc i) i c (omega arith) (omega arith))
       ∙ ap (λ (R : List Row). get_or (get_or R i []) c missing) (table_stays k t (omega arith) (suc c) (suc i))
-      ∙ cell-of-rows memory.work t (suc c) (suc i) i c (omega arith) (omega arith)) codes-tables)
+      ∙ cell-of-rows memory.work t (suc c) (suc i) i c (omega arith) (omega arith)) cells-tables)
 
 -- ---- a candidate stands in the work area
 
@@ -117,49 +114,22 @@ unfolding is_case_at
 judged {needs = needs} {k = k} {memory} {b = b} J F P A =
     subst (λ x. Ready F x (database F k) needs memory → b ≡ is_case F x (database F k)) P.goal (J.case P.file) (ready P A)
 
-module _ {source : Source} {needs : Needs} {s : Span} {k : ℕ} {memory memory' : Memory} {b : Bool} (J : IsCase source needs s.goal memory b memory') where
-  pub tests-case : k < 18446744073709551615 → b ≡ true → Tested source needs s k memory k memory'
-  tests-case l e = record {
-    kept = J.kept;
-    bound = omega arith;
-    follows = omega arith;
-    passed = λ F P A. record {
-      follows = omega arith;
-      hit = λ _. sym (judged J F P A) ∙ e;
-      over = λ j a c p. absurd (omega arith);
-    };
-  }
-
-  pub tests-none : k < 18446744073709551615 → b ≡ false → Tested source needs s k memory (k + 1) memory'
-  tests-none l e = record {
-    kept = J.kept;
-    bound = omega arith;
-    follows = omega arith;
-    passed = λ F P A. record {
-      follows = omega arith;
-      hit = λ q. absurd (omega arith);
-      over = λ j a c p. let q : j ≡ k = omega arith in never (subst (λ i. is_case_at F i ≡ true) q p) (sym (judged J F P A) ∙ e);
-    };
-  }
-
 -- ---- the loop
 
 -- nothing from the start on and before k is a case, and the cells of candidate k stand in the work area
-pub record Scanned (source : Source) (ends : List ℤ) (codes : List ℕ) (needs : Needs) (s : Span) (memory : Memory) (k : ℕ) (memory' : Memory) : Type 0 where
-  pub from : s.start ≤ k
-  pub only : OnlySearched source codes s memory.work memory'.work
+pub record Scanned (s : Search) (needs : Needs) (memory : Memory) (k : ℕ) (memory' : Memory) : Type 0 where
+  pub only : OnlySearched s memory.work memory'.work
   pub counts-size : length memory'.counts ≡ length memory.counts
   pub signs-size : length memory'.signs ≡ length memory.signs
-  pub counts : (i : ℕ) → (ViewIn source.outline i → ⊥) → get_or memory'.counts i 0 ≡ get_or memory.counts i 0
-  pub signs : (i : ℕ) → (ViewIn source.outline i → ⊥) → get_or memory'.signs i 0 ≡ get_or memory.signs i 0
-  pub here : (F : File) → Setting F source ends needs s.goal → Digits F (places_of source ends codes s) → At F memory s.start → At F memory' k
-  pub none : (F : File) → Setting F source ends needs s.goal → Digits F (places_of source ends codes s) → At F memory s.start
+  pub counts : (i : ℕ) → (ViewIn s.source.outline i → ⊥) → get_or memory'.counts i 0 ≡ get_or memory.counts i 0
+  pub signs : (i : ℕ) → (ViewIn s.source.outline i → ⊥) → get_or memory'.signs i 0 ≡ get_or memory.signs i 0
+  pub here : (F : File) → Setting F s.source s.ends needs s.goal → Digits F (places_of s) → At F memory s.start → At F memory' k
+  pub none : (F : File) → Setting F s.source s.ends needs s.goal → Digits F (places_of s) → At F memory s.start
       → (j : ℕ) → s.start ≤ j → j < k → is_case_at F j ≡ false
 
-module _ {source : Source} {ends : List ℤ} {codes : List ℕ} {needs : Needs} {s : Span} {memory : Memory} where
-  pub scanned-none : Scanned source ends codes needs s memory s.start memory
+module _ {s : Search} {needs : Needs} {memory : Memory} where
+  pub scanned-none : Scanned s needs memory s.start memory
   scanned-none = record {
-    from = omega arith;
     only = only_same memory.work;
     counts-size = refl;
     signs-size = refl;
@@ -169,57 +139,56 @@ module _ {source : Source} {ends : List ℤ} {codes : List ℕ} {needs : Needs} 
     none = λ F P D A j a b. absurd (omega arith);
   }
 
-  module _ {k r : ℕ} {memory₁ memory₂ : Memory} (S : Scanned source ends codes needs s memory k memory₁) (T : Tested source needs s k memory₁ r memory₂) where
+  module _ {k : ℕ} {memory₁ memory₂ : Memory} {b : Bool} (S : Scanned s needs memory k memory₁) (J : IsCase s.source needs s.goal memory₁ b memory₂) where
     -- a test changes views
-    after_test : OnlySearched source codes s memory.work memory₂.work
-    after_test = only-more S.only (only_wider (λ t v. inr v) T.kept.cells)
+    after_test : OnlySearched s memory.work memory₂.work
+    after_test = only-more S.only (only_wider (λ t v. inr v) J.kept.cells)
 
-    after-counts : (i : ℕ) → (ViewIn source.outline i → ⊥) → get_or memory₂.counts i 0 ≡ get_or memory.counts i 0
-    after-counts i h = T.kept.counts i h ∙ S.counts i h
+    after-counts : (i : ℕ) → (ViewIn s.source.outline i → ⊥) → get_or memory₂.counts i 0 ≡ get_or memory.counts i 0
+    after-counts i h = J.kept.counts i h ∙ S.counts i h
 
-    after-signs : (i : ℕ) → (ViewIn source.outline i → ⊥) → get_or memory₂.signs i 0 ≡ get_or memory.signs i 0
-    after-signs i h = T.kept.signs i h ∙ S.signs i h
+    after-signs : (i : ℕ) → (ViewIn s.source.outline i → ⊥) → get_or memory₂.signs i 0 ≡ get_or memory.signs i 0
+    after-signs i h = J.kept.signs i h ∙ S.signs i h
 
-    pub scanned-more : (r ≡ k → ⊥) → {work₃ : List ℤ} → Moved (places_of source ends codes s) k r memory₂.work work₃
-        → Scanned source ends codes needs s memory r (memory_from memory₂.counts memory₂.signs work₃)
-    scanned-more d M = record {
-      from = omega (arith, S.from, T.follows);
+    pub scanned-more : b ≡ false → {work₃ : List ℤ} → Moved (places_of s) k (k + 1) memory₂.work work₃
+        → Scanned s needs memory (k + 1) (memory_from memory₂.counts memory₂.signs work₃)
+    scanned-more e M = record {
       only = only-more after_test (only_wider (λ t v. inl v) M.only);
-      counts-size = T.kept.counts-size ∙ S.counts-size;
-      signs-size = T.kept.signs-size ∙ S.signs-size;
+      counts-size = J.kept.counts-size ∙ S.counts-size;
+      signs-size = J.kept.signs-size ∙ S.signs-size;
       counts = after-counts;
       signs = after-signs;
-      here = λ F P D A. moved_at P.file D T.kept M (S.here F P D A);
-      none = λ F P D A j a b. by-test (ltb j k)
-          (λ e. S.none F P D A j a (ltb-true j k e))
-          (λ e. let h = ltb-false j k e in by-test (is_case_at F j)
-          (λ c. let (i, si, ik, ci) = (T.passed F P (S.here F P D A)).over j h b c in never ci (S.none F P D A i si ik))
-          (λ c. c));
+      here = λ F P D A. moved_at P.file D J.kept M (S.here F P D A);
+      none = λ F P D A j a l. by-lt j k
+          (λ _ h. S.none F P D A j a h)
+          (λ _ h. let q : j ≡ k = omega arith in rw q (sym (judged J F P (S.here F P D A)) ∙ e));
     }
 
-    pub scanned-found : k < s.end → r ≡ k → Scans source ends codes needs s memory k memory₂
-    scanned-found l e = record {
+    pub scanned-found : s.start ≤ k → k < s.end → b ≡ true → Scans s needs memory (Some k) memory₂
+    scanned-found f l e = record {
       only = after_test;
       counts = after-counts;
       signs = after-signs;
+      inside = l;
       found = λ F P D A h.
           let X = S.here F P D A in
           record {
             first = sought-one (is_case_at F) s.start (s.end - s.start) k (record {
-              from = S.from;
+              from = f;
               to = omega arith;
               none = S.none F P D A;
-              hit = λ _. (T.passed F P X).hit e;
+              hit = λ _. sym (judged J F P X) ∙ e;
             });
-            cells = λ _. cells-kept P.file.legal P.file.tables T.kept ∙ X.cells;
+            cells = cells-kept P.file.legal P.file.tables J.kept ∙ X.cells;
           };
     }
 
-  pub scanned-all : {k : ℕ} {memory₁ : Memory} → Scanned source ends codes needs s memory k memory₁ → s.end ≤ k → Scans source ends codes needs s memory s.end memory₁
+  pub scanned-all : {k : ℕ} {memory₁ : Memory} → Scanned s needs memory k memory₁ → s.end ≤ k → Scans s needs memory None memory₁
   scanned-all {k} S l = record {
     only = S.only;
     counts = S.counts;
     signs = S.signs;
+    inside = tt;
     found = λ F P D A h. record {
       first = sought-one (is_case_at F) s.start (s.end - s.start) s.end (record {
         from = h;
@@ -227,17 +196,18 @@ module _ {source : Source} {ends : List ℤ} {codes : List ℕ} {needs : Needs} 
         none = λ j a b. S.none F P D A j a (omega arith);
         hit = λ x. absurd (omega arith);
       });
-      cells = λ x. absurd (omega arith);
+      cells = tt;
     };
   }
 
 -- ---- the search
 
-pub searches : {source : Source} {needs : Needs} {ends : List ℤ} {codes : List ℕ} {s : Span} {work work₁ : List ℤ} {counts : List ℕ} {r : ℕ} {memory₂ : Memory}
-    → TablesCounted source.shape source.outline.tables (replicate 16 0) counts → CandidatePut (places_of source ends codes s) s.start work work₁
-    → NeedsOf source s.goal needs → Scans source ends codes needs s (memory_from counts (replicate 16 0) work₁) r memory₂
-    → Searched source ends codes s work r memory₂.work
+pub searches : {s : Search} {needs : Needs} {work work₁ : List ℤ} {counts : List ℕ} {r : Option ℕ} {memory₂ : Memory}
+    → TablesCounted s.source.shape s.source.outline.tables (replicate 16 0) counts → CandidatePut (places_of s) s.start work work₁
+    → NeedsOf s.source s.goal needs → Scans s needs (memory_from counts (replicate 16 0) work₁) r memory₂
+    → Searched s work r memory₂.work
 searches C P N S = record {
   only = only-more (only_wider (λ t v. inl v) P.only) S.only;
+  inside = S.inside;
   found = λ F M e D whole h. S.found F (setting M e N) D (placed_at M D C whole P) h;
 }

@@ -1,6 +1,6 @@
 -- A candidate of a text before the evaluator, and what the evaluator leaves. The fields of `Prepared` are what the functions called
 -- promise, in the order of the calls; nothing else is asked of plan, flags and buffers. Assumes nothing: these are definitions.
-use Rattle.std.specs.Prelude.{◌≡◌, Bool, false, List, ℕ, ◌+◌, ◌<◌, length, get_or}
+use Rattle.std.specs.Prelude.{◌≡◌, Ok, Bool, false, List, ℕ, ◌+◌, ◌<◌, length, get_or}
 use Rattle.meaning.specs.Syntax.{File, Database}
 use Rattle.meaning.specs.Algebra.{MeaningOf}
 use Rattle.meaning.specs.Bounds.{schemas}
@@ -23,7 +23,7 @@ pub record Prepared (text : List ℕ) (F : File) (k : ℕ) : Type 0 where
   -- numbers of rows, signs and rows, where those of the tables stand
   pub memory : Memory
   -- plan::check
-  pub checked : Plans (file_of text) plan
+  pub checked : Plans (file_of text) (Ok plan)
   -- needs::needs_of
   pub flagged : NeedsOf (source_of plan) plan.goal needs
   -- outline::count_tables and moves::put_candidate; of a later candidate, judgement::is_case of the one before and moves::move_to

@@ -1,25 +1,25 @@
 // The lent buffers after a look.
-ghost use Rattle.std.specs.Prelude.{◌≡◌, ◌+◌, min, ◌≤◌};
+ghost use Rattle.std.specs.Prelude.{◌≡◌, ◌+◌, min, ◌≤◌, length};
 ghost use Rattle.meaning.specs.Look.{zeros};
 ghost use Rattle.look.specs.Buffers.{Shows};
 
+use super::cells::Cell;
 use store;
 
 // The cells of the tables go to the front of the instance buffer.
 // Refused: nothing written; the first cell in each place.
-pub(crate) fn show(codes: &[u16], cells: u32, work: &[i32], instance: &mut [i16])
-    ensures { Shows codes.now cells work.now instance.old instance.new }
+pub(crate) fn show(cells: &[Cell], work: &[i32], instance: &mut [i16])
+    ensures { Shows cells.now (length cells.now) work.now instance.old instance.new }
 {
-    let mut j: u32 = 0;
-    while j < cells {
-        let at = j as usize;
-        let code = slice::item_at(codes, at, 0);
-        let relation = (code / 32) as usize;
-        let row = (code / 4 % 8) as usize;
-        let column = (code % 4) as usize;
-        let v = store::cell(work, relation, row, column);
-        slice::put_item(instance, at, v.shown());
-        j += 1;
+    for j in 0..cells.len() {
+        let cell = cells[j];
+        let v = store::cell(
+            work,
+            cell.table as usize,
+            cell.row as usize,
+            cell.column as usize,
+        );
+        slice::put_item(instance, j, v.shown());
     }
 }
 
@@ -28,11 +28,7 @@ pub(crate) fn show(codes: &[u16], cells: u32, work: &[i32], instance: &mut [i16]
 pub(crate) fn clear(work: &mut [i32])
     ensures { work.new ≡ zeros work.old }
 {
-    let mut i = 0;
-    while i < work.len() {
-        work[i] = 0;
-        i += 1;
-    }
+    work.fill(0);
 }
 
 // "end = min(start + count, N)": the sum is never taken where it would be too large.

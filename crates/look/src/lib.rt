@@ -6,22 +6,32 @@ pub mod cells;
 pub mod moves;
 pub mod scan;
 
-ghost use Rattle.look.specs.Looks.{LooksText, Concludes, Looked, LooksAt};
+ghost use Rattle.look.specs.Scans.{search_in};
+ghost use Rattle.look.specs.Looks.{LooksText, Concludes, Tells, Looked, LooksAt};
 
 use catalog::plan::Plan;
+use catalog::source::Source;
+use cells::Cell;
 use checker::plan;
-use scan::Span;
+use scan::Search;
+use text::refusal::{Reason, Refusal};
 
 // The work area has at least this many numbers.
 pub const AREA: usize = 9216;
 
-// "case k", "no case", "spent" with next, or a refusal with its line.
+// What stands for a cell where there is none.
+const NO_CELL: Cell = Cell {
+    table: 0,
+    row: 0,
+    column: 0,
+};
+
+// "case k", "no case" or "spent" with next.
 #[derive(Clone, Copy)]
 pub enum Answer {
     Case(u64),
     NoCase,
     Spent(u64),
-    Refused(u8, u16),
 }
 
 // Without a case: no case at all where the search has come to the number of candidates.
@@ -34,62 +44,85 @@ fn concluded(end: u64, n: u64) -> Answer
     Answer::Spent(end)
 }
 
+// What a search tells: its case, whose cells are shown; else how far it has come.
+fn told(search: &Search, n: u64, work: &mut [i32], instance: &mut [i16]) -> Answer
+    ensures { Tells (search_in search.now) n work.old instance.old result work.new instance.new }
+{
+    let Some(k) = search.first(work) else {
+        buffers::clear(work);
+        return concluded(search.end, n);
+    };
+    buffers::show(search.cells, work, instance);
+    buffers::clear(work);
+    Answer::Case(k)
+}
+
 // A look at the plan of an accepted file.
-fn looked(p: Plan, start: u64, count: u64, work: &mut [i32], instance: &mut [i16]) -> Answer
+fn looked(
+    p: Plan,
+    start: u64,
+    count: u64,
+    work: &mut [i32],
+    instance: &mut [i16],
+) -> Result<Answer, Refusal>
     ensures { Looked p start count work.old instance.old result work.new instance.new }
 {
     let bytes = p.bytes;
     let shape = p.shape;
     let ends = p.ends;
-    let outline = p.outline;
-    let goal = p.goal;
     let n = p.candidates;
-    let mut codes = [0u16; 512];
-    let cells = cells::cells_of(&shape, outline.tables, &mut codes);
-    if instance.len() < (cells as usize) {
-        return Answer::Refused(12, 0);
+    let mut all = [NO_CELL; 512];
+    let number = cells::cells_of(&shape, p.outline.tables, &mut all);
+    if instance.len() < (number as usize) {
+        return Err(Reason::Instance.at(0));
     }
     if n < start {
-        return Answer::Refused(13, 0);
+        return Err(Reason::Start.at(0));
     }
     let end = buffers::end_of(start, count, n);
-    let s = Span {
-        outline: outline,
-        goal: goal,
-        cells: cells,
-        start: start,
-        end: end,
+    let search = Search {
+        source: Source {
+            bytes: &bytes,
+            shape: &shape,
+            outline: p.outline,
+        },
+        ends: &ends,
+        cells: cells::first(&all, number),
+        goal: p.goal,
+        start,
+        end,
     };
-    let k = scan::search(&bytes, &shape, &ends, &codes, s, work);
-    if k < end {
-        buffers::show(&codes, cells, work, instance);
-        buffers::clear(work);
-        return Answer::Case(k);
-    }
-    buffers::clear(work);
-    concluded(end, n)
+    Ok(told(&search, n, work, instance))
 }
 
-// A look at a plan: 11 first, then the plan's own refusal, then 12 and 13. Which answer a plan of number 0 that is of no legal file gets is
+// A look at what the checker gives: 11 first, then the plan's own refusal, then 12 and 13. Which answer a plan that is of no legal file gets is
 // left open but for 11: the checker gives no such plan. What the answer leaves in the buffers is said of every plan.
 // Refused: every plan refused; 9,215 numbers as enough.
-pub fn look_at(p: Plan, start: u64, count: u64, work: &mut [i32], instance: &mut [i16]) -> Answer
-    ensures { LooksAt p start count work.old instance.old result work.new instance.new }
+pub fn look_at(
+    plan: Result<Plan, Refusal>,
+    start: u64,
+    count: u64,
+    work: &mut [i32],
+    instance: &mut [i16],
+) -> Result<Answer, Refusal>
+    ensures { LooksAt plan start count work.old instance.old result work.new instance.new }
 {
     if work.len() < AREA {
-        return Answer::Refused(11, 0);
+        return Err(Reason::WorkArea.at(0));
     }
-    if p.number != 0 {
-        return Answer::Refused(p.number, p.line);
-    }
-    looked(p, start, count, work, instance)
+    looked(plan?, start, count, work, instance)
 }
 
 // A look: for every text, start, count and buffers, the answer and what the buffers then hold.
 // Refused: a search from 0 for any start; start and count swapped.
-pub fn look(text: &[u8], start: u64, count: u64, work: &mut [i32], instance: &mut [i16]) -> Answer
+pub fn look(
+    text: &[u8],
+    start: u64,
+    count: u64,
+    work: &mut [i32],
+    instance: &mut [i16],
+) -> Result<Answer, Refusal>
     ensures { LooksText text.now start count work.old instance.old result work.new instance.new }
 {
-    let p = plan::check(text);
-    look_at(p, start, count, work, instance)
+    look_at(plan::check(text), start, count, work, instance)
 }

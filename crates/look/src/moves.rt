@@ -1,12 +1,10 @@
 // From candidate to candidate: the cells of the tables in the work area.
-ghost use Rattle.std.specs.Prelude.{◌≡◌, ◌<◌};
-ghost use Rattle.value.specs.Machine.{column_of};
-ghost use Rattle.look.specs.Moves.{code_column, places_from, DigitPut, TakesRow, CandidatePut, Moved};
+ghost use Rattle.look.specs.Moves.{places_in, DigitPut, TakesRow, CandidatePut, Moved};
 
+use super::cells::Cell;
 use catalog::arrays;
 use store;
 use store::Row;
-use value::domain::Domain;
 
 // What is left of two candidate numbers before the digits that are done.
 #[derive(Clone, Copy)]
@@ -22,111 +20,96 @@ struct TakenRow {
     left: u64,
 }
 
-// The column of a cell.
-fn domain_of(shape: &[u8], ends: &[i32], code: u16) -> Domain
-    ensures { code < 512 → column_of result ≡ code_column shape.now ends.now code }
-{
-    let table = (code / 32 % 256) as u8;
-    let column = (code % 4) as u8;
-    arrays::domain_of(shape, ends, table, column)
+// The cells of the tables, and the arrays that say the column of each.
+#[derive(Clone, Copy)]
+pub(crate) struct Places<'a> {
+    pub(crate) shape: &'a [u8],
+    pub(crate) ends: &'a [i32],
+    pub(crate) cells: &'a [Cell],
 }
 
-// A cell takes the last digit of the new quotient; both quotients go on without it.
-fn put_digit(shape: &[u8], ends: &[i32], code: u16, q: Quotients, work: &mut [i32]) -> Quotients
-    ensures { DigitPut shape.now ends.now code q work.old result work.new }
-{
-    let d = domain_of(shape, ends, code);
-    let size = d.size() as u64;
-    if size == 0 {
-        return q;
-    }
-    let digit = (q.new % size) as u32;
-    let relation = (code / 32) as usize;
-    let row = (code / 4 % 8) as usize;
-    let column = (code % 4) as usize;
-    store::put_cell(work, relation, row, column, d.digit(digit));
-    Quotients {
-        old: q.old / size,
-        new: q.new / size,
-    }
-}
-
-// The row of a table's first columns that the last digits of q give, from the last column back.
-fn take_row(shape: &[u8], ends: &[i32], table: u8, width: u8, q: u64) -> TakenRow
-    ensures { TakesRow shape.now ends.now table width q result }
-{
-    let mut row = store::empty_row();
-    let mut left = q;
-    let mut c = width;
-    while 0 < c {
-        c -= 1;
-        let d = arrays::domain_of(shape, ends, table, c);
+impl<'a> Places<'a> {
+    // A cell takes the last digit of the new quotient; both quotients go on without it.
+    fn put_digit(&self, cell: Cell, q: Quotients, work: &mut [i32]) -> Quotients
+        ensures { DigitPut self.now.shape.now self.now.ends.now cell q work.old result work.new }
+    {
+        let d = arrays::domain_of(self.shape, self.ends, cell.table, cell.column);
         let size = d.size() as u64;
         if size == 0 {
-            return TakenRow { row, left };
+            return q;
         }
-        let digit = (left % size) as u32;
-        row = store::with_value(row, c as usize, d.digit(digit));
-        left = left / size;
-    }
-    TakenRow { row, left }
-}
-
-// The cells become those of candidate k, row by row from the last row back: the last code tells the last row and its columns. Codes that are of
-// no file may end in less than a row, and it is not put.
-// Refused: those of candidate 0; rows of another relation.
-pub(crate) fn put_candidate(
-    shape: &[u8],
-    ends: &[i32],
-    codes: &[u16],
-    cells: u32,
-    k: u64,
-    work: &mut [i32],
-)
-    ensures { CandidatePut (places_from shape.now ends.now codes.now cells) k work.old work.new }
-{
-    let mut left = k;
-    let mut j = cells;
-    while 0 < j {
-        let code = slice::item_at(codes, (j - 1) as usize, 0);
-        let width = code % 4 + 1;
-        if j < (width as u32) {
-            return;
-        }
-        let r = take_row(shape, ends, (code / 32 % 256) as u8, width as u8, left);
-        store::put(
+        let digit = (q.new % size) as u32;
+        let relation = cell.table as usize;
+        store::put_cell(
             work,
-            (code / 32) as usize,
-            (code / 4 % 8) as usize,
-            width as usize,
-            r.row,
+            relation,
+            cell.row as usize,
+            cell.column as usize,
+            d.digit(digit),
         );
-        left = r.left;
-        j -= width as u32;
-    }
-}
-
-// The cells go from candidate k to `next`: from the last cell back, up to where the leading digits are the same.
-// Refused: to candidate k; no cell where k and `next` differ.
-pub(crate) fn move_to(
-    shape: &[u8],
-    ends: &[i32],
-    codes: &[u16],
-    cells: u32,
-    k: u64,
-    next: u64,
-    work: &mut [i32],
-)
-    ensures { Moved (places_from shape.now ends.now codes.now cells) k next work.old work.new }
-{
-    let mut q = Quotients { old: k, new: next };
-    let mut j = cells;
-    while 0 < j {
-        if q.old == q.new {
-            return;
+        Quotients {
+            old: q.old / size,
+            new: q.new / size,
         }
-        j -= 1;
-        let code = slice::item_at(codes, j as usize, 0);
-        q = put_digit(shape, ends, code, q, work);
+    }
+
+    // The row of a table's first columns that the last digits of q give, from the last column back.
+    fn take_row(&self, table: u8, width: u8, q: u64) -> TakenRow
+        ensures { TakesRow self.now.shape.now self.now.ends.now table width q result }
+    {
+        let mut row = store::empty_row();
+        let mut left = q;
+        for c in (0..width).rev() {
+            let d = arrays::domain_of(self.shape, self.ends, table, c);
+            let size = d.size() as u64;
+            if size == 0 {
+                return TakenRow { row, left };
+            }
+            let digit = (left % size) as u32;
+            row = store::with_value(row, c as usize, d.digit(digit));
+            left = left / size;
+        }
+        TakenRow { row, left }
+    }
+
+    // The cells become those of candidate k, row by row from the last row back: the last cell tells the last row and its columns, and a turn
+    // goes back by as many cells, so that the index is no counter. Cells that are of no file may end in less than a row, and it is not put.
+    // Refused: those of candidate 0; rows of another relation.
+    pub(crate) fn put_candidate(&self, k: u64, work: &mut [i32])
+        ensures { CandidatePut (places_in self.now) k work.old work.new }
+    {
+        let mut left = k;
+        let mut j = self.cells.len();
+        while 0 < j {
+            let cell = self.cells[j - 1];
+            let width = cell.column.saturating_add(1);
+            if j < (width as usize) {
+                return;
+            }
+            let r = self.take_row(cell.table, width, left);
+            store::put(
+                work,
+                cell.table as usize,
+                cell.row as usize,
+                width as usize,
+                r.row,
+            );
+            left = r.left;
+            j -= width as usize;
+        }
+    }
+
+    // The cells go from candidate k to `next`: from the last cell back, up to where the leading digits are the same.
+    // Refused: to candidate k; no cell where k and `next` differ.
+    pub(crate) fn move_to(&self, k: u64, next: u64, work: &mut [i32])
+        ensures { Moved (places_in self.now) k next work.old work.new }
+    {
+        let mut q = Quotients { old: k, new: next };
+        for j in (0..self.cells.len()).rev() {
+            if q.old == q.new {
+                return;
+            }
+            q = self.put_digit(self.cells[j], q, work);
+        }
     }
 }

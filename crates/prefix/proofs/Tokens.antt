@@ -172,13 +172,6 @@ module _ (o : Open) where
 
   -- ---- a form
   module _ (frame : List ℕ) (at : ℕ) where
-    abbrev Due : Bool → FormEnd
-    Due b = cond b (skipped frame at C) (skipped frame at E)
-
-    pub form-ends : (b : Bool) → length frame ≤ at → Due b ≡ FormEnd.refused 4
-    form-ends true h = past_end frame (field_c o) at h
-    form-ends false h = past_end frame (field_e o) at h
-
     module _ (lt : at < length frame) where
       pub form_e : skipped frame at E ≡ skipped frame (at + 1) (behind_e o (get_or frame at 0))
       unfolding skipped behind_e
@@ -187,35 +180,6 @@ module _ (o : Open) where
       pub form_c : skipped frame at C ≡ skipped frame (at + 1) (behind_c o (get_or frame at 0))
       unfolding skipped behind_c
       form_c = ap (λ bs. skip_of frame (C bs)) (from_byte frame at lt) ∙ ap (skip_of frame) (read_c-step o _ _)
-
-      pub not-condition : get_or frame at 0 < 0x10 → skipped frame at C ≡ FormEnd.refused 4
-      not-condition h = form_c ∙ unknown_c frame (at + 1) (get_or frame at 0) (λ l. omega arith)
-
-      pub not-expression : 8 ≤ get_or frame at 0 → skipped frame at E ≡ FormEnd.refused 4
-      not-expression h = form_e ∙ unknown_e frame (at + 1) (get_or frame at 0) h
-
-      pub no-form : (b : Bool) → 8 ≤ get_or frame at 0 → (0x10 ≤ get_or frame at 0 → 0x18 ≤ get_or frame at 0) → Due b ≡ FormEnd.refused 4
-      no-form true h k = form_c ∙ unknown_c frame (at + 1) (get_or frame at 0) k
-      no-form false h k = not-expression h
-
-  -- ---- two forms
-  module _ (frame : List ℕ) (at : ℕ) where
-    pub pair-further : (b : Bool) {n : ℕ} {r : FormEnd} → r ≡ Due frame at b → r ≡ FormEnd.next n → (at ≤ n) × (n ≤ length frame)
-    pair-further true e k = then-further frame (field_c o) at e k
-    pair-further false e k = then-further frame (field_e o) at e k
-
-    abbrev Two : Bool → FormEnd
-    Two b = cond b (skipped frame at (twice C)) (skipped frame at (twice E))
-
-    pub pair-next : (b : Bool) {n : ℕ} {r : FormEnd} → r ≡ Due frame at b → r ≡ FormEnd.next n → Two b ≡ Due frame n b
-    unfolding twice
-    pair-next true e k = then_next frame (field_c o) at e k (λ _. level-refl)
-    pair-next false e k = then_next frame (field_e o) at e k (λ _. level-refl)
-
-    pub pair-stop : (b : Bool) {n : ℕ} {r : FormEnd} → r ≡ Due frame at b → r ≡ FormEnd.refused n → Two b ≡ FormEnd.refused n
-    unfolding twice
-    pair-stop true {n} e k = then-stop frame C (λ _. C) at n e k
-    pair-stop false {n} e k = then-stop frame E (λ _. E) at n e k
 
 -- ---- exists
 

@@ -1,11 +1,11 @@
 -- Where a reader ends on the bytes of a frame, or the number of its refusal. Assumes nothing: these are definitions, and they compute.
-use Rattle.std.specs.Prelude.{List, ℕ, ◌-◌, length, drop}
+use Rattle.std.specs.Prelude.{List, ℕ, ◌-◌, length, drop, Result, Ok, Err}
+use Rattle.text.specs.Refusals.{number_of}
+use Rattle.text.specs.declared.refusal.Reason.{Reason}
 use Rattle.meaning.specs.Syntax.{Expr, Cond}
 use Rattle.language.specs.Reading.{Read, Reader, Open, ◌>>=◌, choose, expressions, conditions, read_e, read_c}
 use Rattle.catalog.specs.Items.{relations_in, open_in, opened_items}
 use Rattle.prefix.specs.declared.Setting.{Setting}
-use Rattle.prefix.specs.declared.Skip.{Skip}
-use Rattle.prefix.specs.declared.Skip.TheVariants.{Next, Refused}
 
 -- where the bytes behind a form start, or the number of its refusal
 pub data FormEnd : Type 0 where
@@ -13,9 +13,9 @@ pub data FormEnd : Type 0 where
   refused : ℕ → FormEnd
 
 -- what each answer of the code says
-abbrev pub skip_told : Skip → FormEnd
-skip_told (Next n) = FormEnd.next n
-skip_told (Refused n) = FormEnd.refused n
+abbrev pub skip_told : Result ℕ Reason → FormEnd
+skip_told (Ok n) = FormEnd.next n
+skip_told (Err r) = FormEnd.refused (number_of r)
 
 -- what was read aside
 abbrev pub skip_of : {A : Type 0} → List ℕ → Read A → FormEnd

@@ -1,14 +1,16 @@
-// Where each field of a frame ends, and each expression and condition in prefix form; or the number of its refusal.
+// Where each field of a frame ends, and each expression and condition in prefix form; or the reason of its refusal.
 #![tactic(auto)]
 
-ghost use Rattle.std.specs.Prelude.{◌≡◌, cond, ◌&&◌, ◌+◌, ◌*◌, ◌≤◌, ltb, leb, length, get_or};
+ghost use Rattle.std.specs.Prelude.{◌≡◌, ◌&&◌, ◌+◌, ◌*◌, ◌≤◌, ltb, leb, length, get_or};
 ghost use Rattle.language.specs.Reading.{byte_if, two_bytes, step as step_r, place as place_r, existing, read_e, read_c};
 ghost use Rattle.catalog.specs.Items.{relations_in, widths_in};
+ghost use Rattle.text.specs.Refusals.{number_of};
 ghost use Rattle.prefix.specs.Skipped.{skip_told, skipped, twice, open_of, opened_setting, behind_e, behind_c};
 
-use catalog::items;
 use catalog::items::{Items, width};
+use catalog::{frames, items};
 use slice::item_at;
+use text::refusal::Reason;
 
 // Where an expression stands: the from items that are open, and how many relations are before the view.
 #[derive(Clone, Copy)]
@@ -17,11 +19,25 @@ pub struct Setting {
     pub earlier: u8,
 }
 
-// Where the next bytes start, or the number of a refusal.
+impl Setting {
+    // The same with one more item open, the row of a relation.
+    // Refused: the items as they were; no relation before the view.
+    fn opened(self, relation: u8) -> Setting
+        ensures { result ≡ opened_setting self relation }
+    {
+        Setting {
+            items: items::opened(self.items, relation),
+            earlier: self.earlier,
+        }
+    }
+}
+
+// A frame, read where so much is open; the shape tells how many columns each relation has.
 #[derive(Clone, Copy)]
-pub enum Skip {
-    Next(usize),
-    Refused(u8),
+pub struct Reader<'a> {
+    pub frame: &'a [u8],
+    pub shape: &'a [u8],
+    pub setting: Setting,
 }
 
 fn wide(x: u8) -> u16
@@ -36,218 +52,180 @@ fn within(x: u16, lo: u16, hi: u16) -> bool
     lo <= x && x <= hi
 }
 
-// Two bytes, high byte first, 0 for each past the end.
-// Refused: 255 for 256; the high byte twice.
-pub fn word_at(frame: &[u8], at: usize) -> u16
-    ensures { result ≡ get_or frame.now at 0 * 256 + get_or frame.now (at + 1) 0 }
-{
-    if frame.len() <= at {
-        return 0;
-    }
-    wide(item_at(frame, at, 0)) * 256 + wide(item_at(frame, at + 1, 0))
-}
-
 // One byte, whose test the caller has made.
-// Refused: the byte is left; 4 for the number.
-fn tested(frame: &[u8], at: usize, number: u8, passes: bool) -> Skip
-    ensures { skip_told result ≡ skipped frame.now at (byte_if number (λ _. passes)) }
+// Refused: the byte is left; 4 for the reason.
+fn tested(frame: &[u8], at: usize, reason: Reason, passes: bool) -> Result<usize, Reason>
+    ensures { skip_told result ≡ skipped frame.now at (byte_if (number_of reason) (λ _. passes)) }
 {
     if frame.len() <= at {
-        return Skip::Refused(4);
+        return Err(Reason::Form);
     }
-    if passes {
-        Skip::Next(at + 1)
-    } else {
-        Skip::Refused(number)
-    }
+    if passes { Ok(at + 1) } else { Err(reason) }
 }
 
 // One byte below n.
-// Refused: n passes; n for the number.
-pub fn below(frame: &[u8], at: usize, number: u8, n: u8) -> Skip
-    ensures { skip_told result ≡ skipped frame.now at (byte_if number (λ b. ltb b n)) }
+// Refused: n passes; what n numbers for the reason.
+pub fn below(frame: &[u8], at: usize, reason: Reason, n: u8) -> Result<usize, Reason>
+    ensures { skip_told result ≡ skipped frame.now at (byte_if (number_of reason) (λ b. ltb b n)) }
 {
-    tested(frame, at, number, item_at(frame, at, 0) < n)
+    tested(frame, at, reason, item_at(frame, at, 0) < n)
 }
 
 // One byte from lo to hi.
 // Refused: lo for hi; hi for lo.
-pub fn between(frame: &[u8], at: usize, number: u8, lo: u8, hi: u8) -> Skip
-    ensures { skip_told result ≡ skipped frame.now at (byte_if number (λ b. leb lo b && leb b hi)) }
+pub fn between(frame: &[u8], at: usize, reason: Reason, lo: u8, hi: u8) -> Result<usize, Reason>
+    ensures { skip_told result ≡ skipped frame.now at (byte_if (number_of reason) (λ b. leb lo b && leb b hi)) }
 {
     tested(
         frame,
         at,
-        number,
+        reason,
         within(wide(item_at(frame, at, 0)), wide(lo), wide(hi)),
     )
 }
 
 // Two bytes.
 // Refused: one byte; a second byte that is not there.
-fn two_bytes(frame: &[u8], at: usize) -> Skip
+fn two_bytes(frame: &[u8], at: usize) -> Result<usize, Reason>
     ensures { skip_told result ≡ skipped frame.now at two_bytes }
 {
     if frame.len() <= at {
-        return Skip::Refused(4);
+        return Err(Reason::Form);
     }
     if frame.len() <= at + 1 {
-        return Skip::Refused(4);
+        return Err(Reason::Form);
     }
-    Skip::Next(at + 2)
+    Ok(at + 2)
 }
 
 // Two bytes from 1 to 1,000.
 // Refused: 0 passes; 1,001 passes.
-fn step(frame: &[u8], at: usize) -> Skip
+fn step(frame: &[u8], at: usize) -> Result<usize, Reason>
     ensures { skip_told result ≡ skipped frame.now at step_r }
 {
-    match two_bytes(frame, at) {
-        Skip::Next(next) => if within(word_at(frame, at), 1, 1000) {
-            Skip::Next(next)
-        } else {
-            Skip::Refused(5)
-        },
-        Skip::Refused(n) => Skip::Refused(n),
+    let next = two_bytes(frame, at)?;
+    if within(frames::word_at(frame, at), 1, 1000) {
+        Ok(next)
+    } else {
+        Err(Reason::Limit)
     }
 }
 
-// A from item, and one of its columns.
-// Refused: 5 for 6; the columns of the first from item.
-pub fn place(frame: &[u8], at: usize, items: Items, shape: &[u8]) -> Skip
-    ensures { skip_told result ≡ skipped frame.now at (place_r (widths_in shape.now (relations_in items))) }
-{
-    let item = item_at(frame, at, 0);
-    match tested(frame, at, 6, item < items.number) {
-        Skip::Next(next) => below(frame, next, 6, width(items, shape, item)),
-        Skip::Refused(n) => Skip::Refused(n),
+impl Reader<'_> {
+    // A from item, and one of its columns.
+    // Refused: 5 for 6; the columns of the first from item.
+    pub fn place(&self, at: usize) -> Result<usize, Reason>
+        ensures { skip_told result ≡ skipped self.now.frame.now at (place_r (widths_in self.now.shape.now (relations_in self.now.setting.items))) }
+    {
+        let items = self.setting.items;
+        let item = item_at(self.frame, at, 0);
+        let next = tested(self.frame, at, Reason::Reference, item < items.number)?;
+        below(
+            self.frame,
+            next,
+            Reason::Reference,
+            width(items, self.shape, item),
+        )
     }
-}
 
-// A condition where one is due, else an expression: the token's range says which of the two it begins.
-// Refused: 07 is unknown; 10 is unknown.
-#[cycle(behind_condition_behind_exists_behind_expression_condition_expression_form_pair)]
-fn form(frame: &[u8], at: usize, setting: Setting, shape: &[u8], condition: bool) -> Skip
-    ensures { skip_told result ≡ cond condition (skipped frame.now at (read_c (open_of shape.now setting))) (skipped frame.now at (read_e (open_of shape.now setting))) }
-{
-    if frame.len() <= at {
-        return Skip::Refused(4);
-    }
-    let token = frame[at];
-    let body = at + 1;
-    match token {
-        0x00..=0x07 => if condition {
-            Skip::Refused(4)
-        } else {
-            behind_expression(frame, body, setting, shape, token)
-        },
-        0x10..=0x17 => if condition {
-            behind_condition(frame, body, setting, shape, token)
-        } else {
-            Skip::Refused(4)
-        },
-        _ => Skip::Refused(4),
-    }
-}
-
-// An expression.
-// Refused: a condition; the form at 0.
-#[cycle(behind_condition_behind_exists_behind_expression_condition_expression_form_pair)]
-pub fn expression(frame: &[u8], at: usize, setting: Setting, shape: &[u8]) -> Skip
-    ensures { skip_told result ≡ skipped frame.now at (read_e (open_of shape.now setting)) }
-{
-    form(frame, at, setting, shape, false)
-}
-
-// A condition.
-// Refused: the form at 0; an expression.
-#[cycle(behind_condition_behind_exists_behind_expression_condition_expression_form_pair)]
-pub fn condition(frame: &[u8], at: usize, setting: Setting, shape: &[u8]) -> Skip
-    ensures { skip_told result ≡ skipped frame.now at (read_c (open_of shape.now setting)) }
-{
-    form(frame, at, setting, shape, true)
-}
-
-// Two conditions, or two expressions.
-#[cycle(behind_condition_behind_exists_behind_expression_condition_expression_form_pair)]
-fn pair(frame: &[u8], at: usize, setting: Setting, shape: &[u8], condition: bool) -> Skip
-    ensures { skip_told result ≡ cond condition (skipped frame.now at (twice (read_c (open_of shape.now setting)))) (skipped frame.now at (twice (read_e (open_of shape.now setting)))) }
-{
-    match form(frame, at, setting, shape, condition) {
-        Skip::Next(next) => form(frame, next, setting, shape, condition),
-        Skip::Refused(n) => Skip::Refused(n),
-    }
-}
-
-// What stands behind an expression's token.
-#[cycle(behind_condition_behind_exists_behind_expression_condition_expression_form_pair)]
-fn behind_expression(frame: &[u8], at: usize, setting: Setting, shape: &[u8], token: u8) -> Skip
-    ensures { skip_told result ≡ skipped frame.now at (behind_e (open_of shape.now setting) token) }
-{
-    match token {
-        0x00 => two_bytes(frame, at),
-        0x01 => {
-            let items = setting.items;
-            place(frame, at, items, shape)
+    // An expression.
+    // Refused: a condition; the form at 0.
+    #[cycle(forms)]
+    pub fn expression(&self, at: usize) -> Result<usize, Reason>
+        ensures { skip_told result ≡ skipped self.now.frame.now at (read_e (open_of self.now.shape.now self.now.setting)) }
+    {
+        if self.frame.len() <= at {
+            return Err(Reason::Form);
         }
-        0x02..=0x04 => pair(frame, at, setting, shape, false),
-        0x05 => match step(frame, at) {
-            Skip::Next(next) => expression(frame, next, setting, shape),
-            Skip::Refused(n) => Skip::Refused(n),
-        },
-        0x06 => match condition(frame, at, setting, shape) {
-            Skip::Next(next) => pair(frame, next, setting, shape, false),
-            Skip::Refused(n) => Skip::Refused(n),
-        },
-        0x07 => match between(frame, at, 5, 0, 3) {
-            Skip::Next(next) => expression(frame, next, setting, shape),
-            Skip::Refused(n) => Skip::Refused(n),
-        },
-        _ => Skip::Refused(4),
+        self.behind_expression(at + 1, self.frame[at])
     }
-}
 
-// What stands behind a condition's token.
-#[cycle(behind_condition_behind_exists_behind_expression_condition_expression_form_pair)]
-fn behind_condition(frame: &[u8], at: usize, setting: Setting, shape: &[u8], token: u8) -> Skip
-    requires { at ≤ length frame.now }
-    ensures { skip_told result ≡ skipped frame.now at (behind_c (open_of shape.now setting) token) }
-{
-    match token {
-        0x10 => Skip::Next(at),
-        0x11..=0x13 => pair(frame, at, setting, shape, false),
-        0x14 => condition(frame, at, setting, shape),
-        0x15..=0x16 => pair(frame, at, setting, shape, true),
-        0x17 => behind_exists(frame, at, setting, shape),
-        _ => Skip::Refused(4),
+    // A condition.
+    // Refused: the form at 0; an expression.
+    #[cycle(forms)]
+    pub fn condition(&self, at: usize) -> Result<usize, Reason>
+        ensures { skip_told result ≡ skipped self.now.frame.now at (read_c (open_of self.now.shape.now self.now.setting)) }
+    {
+        if self.frame.len() <= at {
+            return Err(Reason::Form);
+        }
+        self.behind_condition(at + 1, self.frame[at])
     }
-}
 
-// The same with one more item open, the row of a relation.
-// Refused: the items as they were; no relation before the view.
-fn opened(setting: Setting, relation: u8) -> Setting
-    ensures { result ≡ opened_setting setting relation }
-{
-    let items = setting.items;
-    let more = items::opened(items, relation);
-    Setting {
-        items: more,
-        earlier: setting.earlier,
+    #[cycle(forms)]
+    fn two_expressions(&self, at: usize) -> Result<usize, Reason>
+        ensures { skip_told result ≡ skipped self.now.frame.now at (twice (read_e (open_of self.now.shape.now self.now.setting))) }
+    {
+        let next = self.expression(at)?;
+        self.expression(next)
     }
-}
 
-// Behind token 17: a relation, and a condition with its row open. A seventh item is refused before the relation is read.
-#[cycle(behind_condition_behind_exists_behind_expression_condition_expression_form_pair)]
-fn behind_exists(frame: &[u8], at: usize, setting: Setting, shape: &[u8]) -> Skip
-    ensures { skip_told result ≡ skipped frame.now at (existing (open_of shape.now setting) read_c) }
-{
-    let items = setting.items;
-    if 6 <= items.number {
-        return Skip::Refused(5);
+    #[cycle(forms)]
+    fn two_conditions(&self, at: usize) -> Result<usize, Reason>
+        ensures { skip_told result ≡ skipped self.now.frame.now at (twice (read_c (open_of self.now.shape.now self.now.setting))) }
+    {
+        let next = self.condition(at)?;
+        self.condition(next)
     }
-    let inner = opened(setting, item_at(frame, at, 0));
-    match below(frame, at, 6, setting.earlier) {
-        Skip::Next(next) => condition(frame, next, inner, shape),
-        Skip::Refused(n) => Skip::Refused(n),
+
+    // What stands behind an expression's token.
+    // Refused: 07 is unknown.
+    #[cycle(forms)]
+    fn behind_expression(&self, at: usize, token: u8) -> Result<usize, Reason>
+        ensures { skip_told result ≡ skipped self.now.frame.now at (behind_e (open_of self.now.shape.now self.now.setting) token) }
+    {
+        match token {
+            0x00 => two_bytes(self.frame, at),
+            0x01 => self.place(at),
+            0x02..=0x04 => self.two_expressions(at),
+            0x05 => {
+                let next = step(self.frame, at)?;
+                self.expression(next)
+            }
+            0x06 => {
+                let next = self.condition(at)?;
+                self.two_expressions(next)
+            }
+            0x07 => {
+                let next = between(self.frame, at, Reason::Limit, 0, 3)?;
+                self.expression(next)
+            }
+            _ => Err(Reason::Form),
+        }
+    }
+
+    // What stands behind a condition's token.
+    // Refused: 10 is unknown.
+    #[cycle(forms)]
+    fn behind_condition(&self, at: usize, token: u8) -> Result<usize, Reason>
+        requires { at ≤ length self.now.frame.now }
+        ensures { skip_told result ≡ skipped self.now.frame.now at (behind_c (open_of self.now.shape.now self.now.setting) token) }
+    {
+        match token {
+            0x10 => Ok(at),
+            0x11..=0x13 => self.two_expressions(at),
+            0x14 => self.condition(at),
+            0x15..=0x16 => self.two_conditions(at),
+            0x17 => self.behind_exists(at),
+            _ => Err(Reason::Form),
+        }
+    }
+
+    // Behind token 17: a relation, and a condition with its row open. A seventh item is refused before the relation is read.
+    #[cycle(forms)]
+    fn behind_exists(&self, at: usize) -> Result<usize, Reason>
+        ensures { skip_told result ≡ skipped self.now.frame.now at (existing (open_of self.now.shape.now self.now.setting) read_c) }
+    {
+        let setting = self.setting;
+        if 6 <= setting.items.number {
+            return Err(Reason::Limit);
+        }
+        let next = below(self.frame, at, Reason::Reference, setting.earlier)?;
+        let inner = Reader {
+            frame: self.frame,
+            shape: self.shape,
+            setting: setting.opened(item_at(self.frame, at, 0)),
+        };
+        inner.condition(next)
     }
 }

@@ -1,11 +1,10 @@
 -- Each operation is sound: values inside the operands' ranges give a value inside the result's range. Assumes nothing.
-use mathlib.Core.Path.{◌≡◌, refl}
 use mathlib.Core.List.{List, ◌∷◌}
-use Prim.Native.Nat.{ℕ, zero, suc, ◌≤◌}
+use Prim.Native.Nat.{ℕ, ◌≤◌}
 use lib.IntN.{ℤ}
 use lib.ListN.{length}
 use Rattle.value.specs.Bag.{All}
-use Rattle.value.specs.Value.{Operation, Aggregate, aggregate_at, Value, apply, round, tally, total, TallyBetween, Column, InColumn}
+use Rattle.value.specs.Value.{Operation, Aggregate, Value, apply, round, tally, total, TallyBetween, Column, InColumn}
 use Rattle.value.proofs.Order.{min-below, max-above}
 use Rattle.value.proofs.Values.{between-wider, between-self, apply-between, round-between, count-between, sum-tally, minimum-tally, maximum-tally, total-between}
 use Rattle.range.specs.Ranges.{Inside, constant_of, range_from, hull_of, operated_of, rounded_of, aggregated_of}
@@ -42,10 +41,3 @@ aggregated-tally Aggregate.maximum R a h is = maximum-tally is
 pub aggregated-inside : (op : Aggregate) (R : ℕ) (a : Range) {v : Value} {vs : List Value} → length (v ∷ vs) ≤ R → All (Inside a) (v ∷ vs)
     → Inside (aggregated_of op R a) (total op (v ∷ vs))
 aggregated-inside op R a {v} {vs} h is = total-between op v vs (aggregated-tally op R a h is)
-
--- every kind but count and sum keeps the range
-pub aggregated-else : (n R : ℕ) (a : Range) → (n ≡ 0 → ⊥) → (n ≡ 1 → ⊥) → aggregated_of (aggregate_at n) R a ≡ a
-aggregated-else zero R a h k = absurd (h refl)
-aggregated-else (suc zero) R a h k = absurd (k refl)
-aggregated-else (suc (suc zero)) R a h k = refl
-aggregated-else (suc (suc (suc n))) R a h k = refl

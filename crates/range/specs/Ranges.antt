@@ -1,12 +1,9 @@
 -- "Every expression has a range, and every range must lie within -2^31 to 2^31-1. A range is a value with its own operations."
 -- Each operation is on pairs of whole numbers, lo and hi. Assumes nothing: these are definitions, and they compute.
-use Rattle.std.specs.Prelude.{◌≡◌, Bool, ◌&&◌, cond, ℕ, ℤ, pos, ◌*ℤ◌}
+use Rattle.std.specs.Prelude.{Bool, ◌&&◌, cond, ℕ, ℤ, pos, ◌*ℤ◌, Option, None, Some}
 use Rattle.value.specs.Integer.{in32, min_z, max_z, least_end, greatest_end, round_z}
 use Rattle.value.specs.Value.{Operation, Aggregate, apply_z, Value, Between}
 use Rattle.range.specs.declared.Range.{Range}
-use Rattle.range.specs.declared.Wide.{Wide}
-use Rattle.range.specs.declared.Ranged.{Ranged}
-use Rattle.range.specs.declared.Ranged.TheVariants.{Within, Beyond}
 
 -- a value lies in a range
 abbrev pub Inside : Range → Value → Type 0
@@ -26,13 +23,13 @@ unfoldable pub fitted : Range → Fitted
 fitted r = cond (within32 r) (Fitted.fits r) (Fitted.refused 9)
 
 -- what each answer of the code says
-abbrev pub ranged_told : Ranged → Fitted
-ranged_told (Within r) = Fitted.fits r
-ranged_told Beyond = Fitted.refused 9
+abbrev pub ranged_told : Option Range → Fitted
+ranged_told (Some r) = Fitted.fits r
+ranged_told None = Fitted.refused 9
 
 -- the answer of the code that says it
-unfoldable pub ranged : Range → Ranged
-ranged r = cond (within32 r) (Within r) Beyond
+unfoldable pub ranged : Range → Option Range
+ranged r = cond (within32 r) (Some r) None
 
 -- "a constant or table column is itself"
 abbrev pub constant_of : ℤ → Range
@@ -67,8 +64,3 @@ aggregated_of Aggregate.count R a = count_of R
 aggregated_of Aggregate.sum R a = scaled_of R a
 aggregated_of Aggregate.minimum R a = a
 aggregated_of Aggregate.maximum R a = a
-
--- two results in order, as the code holds them on the way
-pub record Results (p q : ℤ) (r : Wide) : Type 0 where
-  pub lo : r.lo ≡ min_z p q
-  pub hi : r.hi ≡ max_z p q

@@ -2,10 +2,13 @@
 #![tactic(auto)]
 
 ghost use Rattle.std.specs.Prelude.{◌≡◌};
-ghost use Rattle.value.specs.Value.{Operation, operation_at, aggregate_at, apply_z};
-ghost use Rattle.range.specs.Ranges.{constant_of, range_from, hull_of, operated_of, rounded_of, scaled_of, count_of, aggregated_of, fitted, ranged_told, Results};
+ghost use Rattle.value.specs.Integer.{min_z, max_z};
+ghost use Rattle.value.specs.Value.{apply_z};
+ghost use Rattle.value.specs.Machine.{operation_of, aggregate_of};
+ghost use Rattle.range.specs.Ranges.{constant_of, range_from, hull_of, operated_of, rounded_of, scaled_of, count_of, aggregated_of, fitted, ranged_told};
 
 use value::integer;
+use value::operator::{Aggregate, Operation};
 
 // The whole numbers from lo to hi.
 #[derive(Clone, Copy)]
@@ -14,43 +17,23 @@ pub struct Range {
     pub hi: i32,
 }
 
-// A range that 32 bits hold, or one that they do not.
-#[derive(Clone, Copy)]
-pub enum Ranged {
-    Within(Range),
-    Beyond,
-}
-
-// A range of 64 bits, on the way to one of 32.
-#[derive(Clone, Copy)]
-struct Wide {
-    lo: i64,
-    hi: i64,
-}
-
-// The results at x and each end of b.
-fn results(kind: u8, x: i32, b: Range) -> Wide
-    ensures { Results (apply_z (operation_at kind) x b.lo) (apply_z (operation_at kind) x b.hi) result }
+// The results at x and each end of b, the lesser first.
+fn results(operation: Operation, x: i32, b: Range) -> (i64, i64)
+    ensures lesser { result.0 ≡ min_z (apply_z (operation_of operation) x b.lo) (apply_z (operation_of operation) x b.hi) }
+    ensures greater { result.1 ≡ max_z (apply_z (operation_of operation) x b.lo) (apply_z (operation_of operation) x b.hi) }
 {
-    let p = integer::operate(kind, x, b.lo);
-    let q = integer::operate(kind, x, b.hi);
-    Wide {
-        lo: integer::lesser64(p, q),
-        hi: integer::greater64(p, q),
-    }
+    let p = integer::operate(operation, x, b.lo);
+    let q = integer::operate(operation, x, b.hi);
+    (p.min(q), p.max(q))
 }
 
+// A range of 64 bits that 32 bits do not hold is `None`.
 impl Range {
-    // The ends of 32 bits.
-    pub const LOW: i32 = -2147483648;
-
-    pub const HIGH: i32 = 2147483647;
-
     // Refused: 0; up to 0.
     pub fn constant(x: i16) -> Range
         ensures { result ≡ constant_of x }
     {
-        let n = integer::widen16(x);
+        let n = i32::from(x);
         Range { lo: n, hi: n }
     }
 
@@ -60,25 +43,19 @@ impl Range {
         ensures { result ≡ range_from lo hi }
     {
         Range {
-            lo: integer::widen16(lo),
-            hi: integer::widen16(hi),
+            lo: i32::from(lo),
+            hi: i32::from(hi),
         }
     }
 
     // The range from lo to hi, if 32 bits hold both.
     // Refused: from -2^31 + 1; lo for hi.
-    fn checked(lo: i64, hi: i64) -> Ranged
+    fn checked(lo: i64, hi: i64) -> Option<Range>
         ensures { ranged_told result ≡ fitted (range_from lo hi) }
     {
-        if integer::between(lo, Range::LOW, Range::HIGH) {
-            if integer::between(hi, Range::LOW, Range::HIGH) {
-                return Ranged::Within(Range {
-                    lo: integer::narrow(lo),
-                    hi: integer::narrow(hi),
-                });
-            }
-        }
-        Ranged::Beyond
+        let lo = i32::try_from(lo).ok()?;
+        let hi = i32::try_from(hi).ok()?;
+        Some(Range { lo, hi })
     }
 
     // The values of both.
@@ -87,47 +64,24 @@ impl Range {
         ensures { result ≡ hull_of self other }
     {
         Range {
-            lo: integer::lesser(self.lo, other.lo),
-            hi: integer::greater(self.hi, other.hi),
+            lo: self.lo.min(other.lo),
+            hi: self.hi.max(other.hi),
         }
     }
 
-    // Kind 0 is the sum, 1 the difference, any other the product.
-    fn operated(self, kind: u8, other: Range) -> Ranged
-        ensures { ranged_told result ≡ fitted (operated_of (operation_at kind) self other) }
+    // The least and the greatest of the results at the ends.
+    // Refused: the least at the lo of self; the greatest at the lo of self.
+    pub fn operated(self, operation: Operation, other: Range) -> Option<Range>
+        ensures { ranged_told result ≡ fitted (operated_of (operation_of operation) self other) }
     {
-        let p = results(kind, self.lo, other);
-        let q = results(kind, self.hi, other);
-        Range::checked(
-            integer::lesser64(p.lo, q.lo),
-            integer::greater64(p.hi, q.hi),
-        )
-    }
-
-    // Refused: the product; of self and self.
-    pub fn sum(self, other: Range) -> Ranged
-        ensures { ranged_told result ≡ fitted (operated_of Operation.sum self other) }
-    {
-        self.operated(0, other)
-    }
-
-    // Refused: the sum; of self and self.
-    pub fn difference(self, other: Range) -> Ranged
-        ensures { ranged_told result ≡ fitted (operated_of Operation.difference self other) }
-    {
-        self.operated(1, other)
-    }
-
-    // Refused: the difference; of self and self.
-    pub fn product(self, other: Range) -> Ranged
-        ensures { ranged_told result ≡ fitted (operated_of Operation.product self other) }
-    {
-        self.operated(2, other)
+        let p = results(operation, self.lo, other);
+        let q = results(operation, self.hi, other);
+        Range::checked(p.0.min(q.0), p.1.max(q.1))
     }
 
     // Both ends rounded to multiples of m.
     // Refused: lo for hi; by 1.
-    pub fn rounded(self, m: u16) -> Ranged
+    pub fn rounded(self, m: u16) -> Option<Range>
         ensures { ranged_told result ≡ fitted (rounded_of m self) }
     {
         Range::checked(integer::round(self.lo, m), integer::round(self.hi, m))
@@ -135,31 +89,31 @@ impl Range {
 
     // The sums of at most as many values as the row bound says.
     // Refused: hi for lo; by 1.
-    fn scaled(self, bound: u32) -> Ranged
+    fn scaled(self, bound: u32) -> Option<Range>
         ensures { ranged_told result ≡ fitted (scaled_of bound self) }
     {
-        let lo = integer::times(bound, integer::lesser(self.lo, 0));
-        let hi = integer::times(bound, integer::greater(self.hi, 0));
+        let lo = integer::times(bound, self.lo.min(0));
+        let hi = integer::times(bound, self.hi.max(0));
         Range::checked(lo, hi)
     }
 
     // The numbers of rows up to the row bound.
     // Refused: one row too many; from 1.
-    fn count(bound: u32) -> Ranged
+    fn count(bound: u32) -> Option<Range>
         ensures { ranged_told result ≡ fitted (count_of bound) }
     {
-        Range::checked(0, integer::offset(0, bound))
+        Range::checked(0, i64::from(bound))
     }
 
-    // Kind 0 is count, 1 sum, 2 minimum, any other maximum; self is the range of the argument.
+    // Self is the range of the argument.
     // Refused: no rows; one row.
-    pub fn aggregated(self, kind: u8, bound: u32) -> Ranged
-        ensures { ranged_told result ≡ fitted (aggregated_of (aggregate_at kind) bound self) }
+    pub fn aggregated(self, kind: Aggregate, bound: u32) -> Option<Range>
+        ensures { ranged_told result ≡ fitted (aggregated_of (aggregate_of kind) bound self) }
     {
         match kind {
-            0 => Range::count(bound),
-            1 => self.scaled(bound),
-            _ => Ranged::Within(self),
+            Aggregate::Count => Range::count(bound),
+            Aggregate::Sum => self.scaled(bound),
+            Aggregate::Minimum | Aggregate::Maximum => Some(self),
         }
     }
 }

@@ -19,15 +19,16 @@ use Rattle.language.specs.OutputOf.{case_frame}
 use Rattle.catalog.specs.FileIn.{PlanOf}
 use Rattle.catalog.specs.declared.plan.Plan.{Plan}
 use Rattle.catalog.proofs.FileLaws.{rows_are, columns-are}
+use Rattle.std.proofs.Common.{Ok}
 use Rattle.checker.specs.Plans.{Plans}
 use Rattle.report.specs.Lines.{Grown, Tabled, TablesLined, CaseLined}
 use Rattle.report.proofs.LineLaws.{grown-line, grown-more}
 
 -- the plan of an accepted text says where the cells of a candidate stand
-pub tabled : (text : List ℕ) (p : Plan) → Plans (file_of text) p → (F : File) (k : ℕ) {shows : List ℤ} → file_of text ≡ Outcome.accepted F
+pub tabled : (text : List ℕ) (p : Plan) → Plans (file_of text) (Ok p) → (F : File) (k : ℕ) {shows : List ℤ} → file_of text ≡ Outcome.accepted F
     → cell_count F ≤ length shows → take (cell_count F) shows ≡ map shown (cells F k) → Tabled F (cells F k) p.shape p.outline.tables shows
 tabled text p P F k {shows} e room same =
-    let Q : PlanOf F p = subst (λ (o : Outcome). Plans o p) e P in
+    let Q : PlanOf F p = subst (λ (o : Outcome). Plans o (Ok p)) e P in
     let n : length (cells F k) ≡ cell_count F = length-cells F k in
     record {
       legal = Q.file.legal;

@@ -5,8 +5,8 @@ use Prim.Native.Nat.{ℕ, suc, ◌+◌, ◌*◌, ◌-◌, ◌≤◌, ◌<◌}
 use native.Mathlib.Nat.{mul-le-mul}
 use native.Mathlib.Omega.{arith}
 use lib.IntN.{ℤ, pos}
-use lib.ListN.{length, get_or, take, drop, set, length-append, length-drop, length-take, length-set, take-append-drop}
-use lib.Seq.{take-suc, take-suc-set, get_or-drop, drop-drop}
+use lib.ListN.{length, get_or, take, drop, set, length-append, length-take, length-set, take-append-drop}
+use lib.Seq.{take-suc, take-suc-set, take-length, drop-drop}
 use Rattle.value.specs.Integer.{high_byte, low_byte}
 use Rattle.value.proofs.Decides.{by-test}
 use Rattle.text.specs.Text.{line, text_of}
@@ -56,35 +56,45 @@ unfolding number_bytes
 bytes-snoc [] z = refl
 bytes-snoc (x ∷ xs) z = ap (λ (l : List ℕ). high_byte x ∷ low_byte x ∷ l) (bytes-snoc xs z)
 
-pub cells-none : (cells : List ℤ) (first : ℕ) (frame : List ℕ) → CellsPut cells first 0 frame frame
-unfolding number_bytes
-cells-none cells first frame = record { size = refl; put = sym (append-nil (take 3 frame)) }
+-- the first i of them are put
+pub record CellsSoFar (cells : List ℤ) (i : ℕ) (frame now : List ℕ) : Type 0 where
+  pub size : length now ≡ length frame
+  pub put : take (3 + 2 * i) now ≡ take 3 frame ++ number_bytes (take i cells)
 
-pub cells-more : {cells : List ℤ} {first i : ℕ} {frame now : List ℕ} {high low : ℕ} → CellsPut cells first i frame now → first + i < length cells → 4 + 2 * i < length frame
-    → high ≡ high_byte (get_or cells (first + i) (pos 0)) → low ≡ low_byte (get_or cells (first + i) (pos 0))
-    → CellsPut cells first (i + 1) frame (set (set now (3 + 2 * i) high) (4 + 2 * i) low)
-cells-more {cells} {first} {i} {frame} {now} {high} {low} p h k a b =
-    let rest : List ℤ = drop first cells in
-    let z : ℤ = get_or cells (first + i) (pos 0) in
-    let one : List ℕ = set now (3 + 2 * i) high in
-    let whole : length now ≡ length frame = p.size in
-    let e : i + 1 ≡ suc i = omega arith in
-    let e₁ : 4 + 2 * i ≡ suc (3 + 2 * i) = omega arith in
-    let e₂ : 3 + 2 * (i + 1) ≡ suc (4 + 2 * i) = omega arith in
-    let next : take (i + 1) rest ≡ take i rest ++ (z ∷ []) =
-    ap (λ j. take j rest) e ∙ take-suc rest i (pos 0) (simp length-drop (omega arith)) ∙ ap (λ y. take i rest ++ (y ∷ [])) (get_or-drop first cells i (pos 0)) in
-    let two : take (3 + 2 * (i + 1)) (set one (4 + 2 * i) low) ≡ take (4 + 2 * i) one ++ (low ∷ []) =
-    ap (λ j. take j (set one (4 + 2 * i) low)) e₂ ∙ take-suc-set one (4 + 2 * i) low (simp length-set (omega arith)) in
-    let before : take (4 + 2 * i) one ≡ take (3 + 2 * i) now ++ (high ∷ []) =
-    ap (λ j. take j one) e₁ ∙ take-suc-set now (3 + 2 * i) high (omega arith) in
-    record {
-      size = length-set one (4 + 2 * i) low ∙ length-set now (3 + 2 * i) high ∙ p.size;
-      put = two ∙ ap (λ (l : List ℕ). l ++ (low ∷ [])) (before ∙ ap (λ (l : List ℕ). l ++ (high ∷ [])) p.put)
-          ∙ append_assoc (take 3 frame ++ number_bytes (take i rest)) (high ∷ []) (low ∷ [])
-          ∙ append_assoc (take 3 frame) (number_bytes (take i rest)) (high ∷ low ∷ [])
-          ∙ ap (λ (l : List ℕ). take 3 frame ++ l)
-          (ap₂ (λ (x y : ℕ). number_bytes (take i rest) ++ (x ∷ y ∷ [])) a b ∙ sym (bytes-snoc (take i rest) z) ∙ ap number_bytes (sym next));
-    }
+module _ {cells : List ℤ} {frame : List ℕ} where
+  pub cells-none : CellsSoFar cells 0 frame frame
+  unfolding number_bytes
+  cells-none = record { size = refl; put = sym (append-nil (take 3 frame)) }
+
+  pub cells-more : {i : ℕ} {now : List ℕ} {high low : ℕ} → CellsSoFar cells i frame now → i < length cells → 4 + 2 * i < length frame
+      → high ≡ high_byte (get_or cells i (pos 0)) → low ≡ low_byte (get_or cells i (pos 0))
+      → CellsSoFar cells (i + 1) frame (set (set now (3 + 2 * i) high) (4 + 2 * i) low)
+  cells-more {i} {now} {high} {low} p h k a b =
+      let z : ℤ = get_or cells i (pos 0) in
+      let one : List ℕ = set now (3 + 2 * i) high in
+      let whole : length now ≡ length frame = p.size in
+      let e : i + 1 ≡ suc i = omega arith in
+      let e₁ : 4 + 2 * i ≡ suc (3 + 2 * i) = omega arith in
+      let e₂ : 3 + 2 * (i + 1) ≡ suc (4 + 2 * i) = omega arith in
+      let next : take (i + 1) cells ≡ take i cells ++ (z ∷ []) = ap (λ j. take j cells) e ∙ take-suc cells i (pos 0) h in
+      let two : take (3 + 2 * (i + 1)) (set one (4 + 2 * i) low) ≡ take (4 + 2 * i) one ++ (low ∷ []) =
+      ap (λ j. take j (set one (4 + 2 * i) low)) e₂ ∙ take-suc-set one (4 + 2 * i) low (simp length-set (omega arith)) in
+      let before : take (4 + 2 * i) one ≡ take (3 + 2 * i) now ++ (high ∷ []) =
+      ap (λ j. take j one) e₁ ∙ take-suc-set now (3 + 2 * i) high (omega arith) in
+      record {
+        size = length-set one (4 + 2 * i) low ∙ length-set now (3 + 2 * i) high ∙ p.size;
+        put = two ∙ ap (λ (l : List ℕ). l ++ (low ∷ [])) (before ∙ ap (λ (l : List ℕ). l ++ (high ∷ [])) p.put)
+            ∙ append_assoc (take 3 frame ++ number_bytes (take i cells)) (high ∷ []) (low ∷ [])
+            ∙ append_assoc (take 3 frame) (number_bytes (take i cells)) (high ∷ low ∷ [])
+            ∙ ap (λ (l : List ℕ). take 3 frame ++ l)
+            (ap₂ (λ (x y : ℕ). number_bytes (take i cells) ++ (x ∷ y ∷ [])) a b ∙ sym (bytes-snoc (take i cells) z) ∙ ap number_bytes (sym next));
+      }
+
+  pub cells-all : {i : ℕ} {now : List ℕ} → CellsSoFar cells i frame now → i ≡ length cells → CellsPut cells frame now
+  cells-all {i} {now} p e = record {
+    size = p.size;
+    put = ap (λ j. take (3 + 2 * j) now) (sym e) ∙ p.put ∙ ap (λ j. take 3 frame ++ number_bytes (take j cells)) e ∙ ap (λ (l : List ℤ). take 3 frame ++ number_bytes l) (take-length cells);
+  }
 
 -- ---- the line of a table
 
@@ -96,20 +106,19 @@ behind-near : (f out : List ℕ) (at : ℕ) → behind f at out ≤ at + length 
 unfolding behind
 behind-near f out at = by-test (fits f at out) (λ e. rw e (omega arith)) (λ e. rw e (omega arith))
 
-module _ {t rows columns : ℕ} {cells : List ℤ} {first at : ℕ} {out : List ℕ} where
-  -- no table of a file has such cells
-  pub table_none : (rows * columns ≤ 32 → first + rows * columns ≤ length cells → ⊥) → TableLined t rows columns cells first at out at out
-  table_none h = record { size = refl; near = omega arith; lined = λ a b room. absurd (h a b) }
+module _ {t rows : ℕ} {cells : List ℤ} {at : ℕ} {out : List ℕ} where
+  -- no table of a file has so many cells
+  pub table_none : 32 < length cells → TableLined t rows cells at out at out
+  table_none h = record { size = refl; near = omega arith; lined = λ a room. absurd (omega arith) }
 
-  pub table_done : {frame frame' out' : List ℕ} {r : ℕ} → length frame ≡ 67 → rows * columns ≤ 32 → take 3 frame ≡ 0x81 ∷ t ∷ rows ∷ []
-      → CellsPut cells first (rows * columns) frame frame' → Written (take (3 + 2 * (rows * columns)) frame') at out r out'
-      → TableLined t rows columns cells first at out r out'
+  pub table_done : {frame frame' out' : List ℕ} {r : ℕ} → length frame ≡ 67 → length cells ≤ 32 → take 3 frame ≡ 0x81 ∷ t ∷ rows ∷ []
+      → CellsPut cells frame frame' → Written (take (3 + 2 * length cells) frame') at out r out' → TableLined t rows cells at out r out'
   table_done {frame} {frame'} {out'} {r} n few front p w =
-      let f : List ℕ = take (3 + 2 * (rows * columns)) frame' in
-      let own : f ≡ 0x81 ∷ t ∷ rows ∷ number_bytes (take (rows * columns) (drop first cells)) = p.put ∙ ap (λ (l : List ℕ). l ++ number_bytes (take (rows * columns) (drop first cells))) front in
+      let f : List ℕ = take (3 + 2 * length cells) frame' in
+      let own : f ≡ 0x81 ∷ t ∷ rows ∷ number_bytes cells = p.put ∙ ap (λ (l : List ℕ). l ++ number_bytes cells) front in
       let size : length f ≤ 67 = simp length-take (omega (arith, p.size, n)) in
       record {
         size = ap length w.left ∙ length-written f out at;
         near = omega (arith, w.next, behind-near f out at, length-line f, size);
-        lined = λ a b room. rw own at (grown-line w (omega (arith, length-line f, size, room)));
+        lined = λ a room. rw own at (grown-line w (omega (arith, length-line f, size, room)));
       }

@@ -1,5 +1,5 @@
 -- The program's output from the answer to its look, and the output's length. Assumes nothing.
-use mathlib.Core.Path.{◌≡◌, refl, sym, ap, subst, ◌∙◌}
+use mathlib.Core.Path.{◌≡◌, refl, sym, ap, ap₂, ◌∙◌}
 use mathlib.Core.List.{List, [], ◌∷◌, map}
 use Prim.Native.Nat.{ℕ, ◌≤◌}
 use native.Mathlib.Omega.{arith}
@@ -21,14 +21,17 @@ use Rattle.language.specs.Check.{Outcome, candidate_limit}
 use Rattle.language.specs.FileOf.{file_of}
 use Rattle.language.specs.Legal.{Legal}
 use Rattle.language.proofs.TextLaws.{accepted-text}
+use Rattle.std.proofs.Common.{Result, Ok, Err}
+use Rattle.text.specs.Refusals.{number_of as reason_number}
+use Rattle.text.specs.declared.refusal.Refusal.{Refusal}
 use Rattle.checker.specs.Plans.{Plans}
 use Rattle.catalog.specs.declared.plan.Plan.{Plan}
 use Rattle.look.specs.Looks.{answer_of, LooksAt}
 use Rattle.language.specs.LookOf.{look_of}
 use Rattle.look.specs.declared.Answer.{Answer as Answered}
-use Rattle.look.specs.declared.Answer.TheVariants.{Case, NoCase, Spent, Refused}
+use Rattle.look.specs.declared.Answer.TheVariants.{Case, NoCase, Spent}
 use Rattle.language.proofs.WholeSearch.{first, shown_all, all-case, all_none, answered, whole-look}
-use Rattle.look.proofs.CodeLaws.{codes-few}
+use Rattle.look.proofs.CellLaws.{cells-few}
 use Rattle.look.proofs.LookLaws.{looks-planned}
 use Rattle.language.proofs.RealLooks.{look-of-text}
 use Rattle.language.specs.OutputOf.{no_case_frame, refusal_frame, answer_frames, searched_all, outcome_frames, output_of, output_room, Printed}
@@ -71,7 +74,7 @@ module _ (text : List ℕ) (count : ℕ) (work inst : List ℤ) (x : Answer) (w 
   cells_fit : (F : File) → file_of text ≡ Outcome.accepted F → cell_count F ≤ length inst
   cells_fit F e =
       let l : Legal F = (accepted-text text F e).legal in
-      omega (arith, codes-few l.tables, l.relation_count, room)
+      omega (arith, cells-few l.tables, l.relation_count, room)
 
   accepted-all : (F : File) → file_of text ≡ Outcome.accepted F → After.after x w i ≡ After.after (searched_all F) (zeros work) (shown_all F inst)
   accepted-all F e =
@@ -126,7 +129,7 @@ module _ (text : List ℕ) (count : ℕ) (work inst : List ℤ) (x : Answer) (w 
   }
 
 -- by a look at the text's plan
-pub said-planned : (text : List ℕ) {p : Plan} {count : ℕ} {work inst : List ℤ} {a : Answered} {w i : List ℤ} → candidate_limit ≤ count → work_size ≤ length work
+pub said-planned : (text : List ℕ) {p : Result Plan Refusal} {count : ℕ} {work inst : List ℤ} {a : Result Answered Refusal} {w i : List ℤ} → candidate_limit ≤ count → work_size ≤ length work
     → 512 ≤ length inst → Plans (file_of text) p → LooksAt p 0 count work inst a w i → Said text (answer_of a) i
 said-planned text {count = count} {work} {inst} {a} {w} {i} many whole room P L =
     said text count work inst (answer_of a) w i many whole room (looks-planned text L P).after
@@ -144,18 +147,27 @@ module _ (text out : List ℕ) where
   printed-line : {f out' : List ℕ} {r : ℕ} → output_room ≤ length out → outcome_frames (file_of text) ≡ f ∷ [] → length f ≤ 4 → Written f 0 out r out' → Printed text out r out'
   printed-line {f} h e n w = printed h e (grown-line w (omega (arith, length-line f, n, h)))
 
-  module _ {a : Answered} {inst : List ℤ} {out' : List ℕ} {r : ℕ} (h : output_room ≤ length out) (S : Said text (answer_of a) inst) where
-    pub printed-case : (p : Plan) {k : ℕ} → a ≡ Case k → Plans (file_of text) p → CaseLined p.shape p.outline.tables k inst out r out' → Printed text out r out'
-    printed-case p {k} e P L =
-        let C = S.case k (ap answer_of e) in
+  -- a text that is refused
+  pub printed-unread : (x : Refusal) {out' : List ℕ} {r : ℕ} → output_room ≤ length out → Plans (file_of text) (Err x)
+      → Written (refusal_frame (reason_number x.reason) x.line) 0 out r out' → Printed text out r out'
+  printed-unread x h P w = printed-line h (go (file_of text) P) (omega arith) w
+    where
+      go : (o : Outcome) → Plans o (Err x) → outcome_frames o ≡ refusal_frame (reason_number x.reason) x.line ∷ []
+      go (Outcome.refused n l) q = ap₂ (λ (m k : ℕ). refusal_frame m k ∷ []) (sym q.0) (sym q.1)
+      go (Outcome.accepted F) q = absurd q
+
+  module _ {a : Result Answered Refusal} {inst : List ℤ} {out' : List ℕ} {r : ℕ} (h : output_room ≤ length out) (S : Said text (answer_of a) inst) where
+    pub printed-case : (p : Plan) {k : ℕ} {x : Answered} → a ≡ Ok x → x ≡ Case k → Plans (file_of text) (Ok p) → CaseLined p.shape p.outline.tables k inst out r out' → Printed text out r out'
+    printed-case p {k} e f P L =
+        let C = S.case k (ap answer_of (e ∙ ap Ok f)) in
         printed h (ap outcome_frames C.accepted ∙ ap (answer_frames C.file) C.answer)
         (L.lined C.file (tabled text p P C.file k C.accepted C.room C.shows) h)
 
-    pub printed-none : a ≡ NoCase → Written no_case_frame 0 out r out' → Printed text out r out'
-    printed-none e w = printed-line h (S.none (ap answer_of e)) (omega arith) w
+    pub printed-none : {x : Answered} → a ≡ Ok x → x ≡ NoCase → Written no_case_frame 0 out r out' → Printed text out r out'
+    printed-none e f w = printed-line h (S.none (ap answer_of (e ∙ ap Ok f))) (omega arith) w
 
-    pub printed-refused : {n l : ℕ} {f : List ℕ} → a ≡ Refused n l → f ≡ refusal_frame n l → Written f 0 out r out' → Printed text out r out'
-    printed-refused {n} {l} e g w = printed-line h (S.refused n l (ap answer_of e)) (omega arith) (subst (λ (f : List ℕ). Written f 0 out r out') g w)
+    pub printed-refused : {x : Refusal} → a ≡ Err x → Written (refusal_frame (reason_number x.reason) x.line) 0 out r out' → Printed text out r out'
+    printed-refused {x} e w = printed-line h (S.refused (reason_number x.reason) x.line (ap answer_of e)) (omega arith) w
 
-    pub printed-spent : {next : ℕ} → a ≡ Spent next → Printed text out r out'
-    printed-spent {next} e = absurd (S.spent next (ap answer_of e))
+    pub printed-spent : {next : ℕ} {x : Answered} → a ≡ Ok x → x ≡ Spent next → Printed text out r out'
+    printed-spent {next} e f = absurd (S.spent next (ap answer_of (e ∙ ap Ok f)))

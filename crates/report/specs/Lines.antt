@@ -18,16 +18,16 @@ pub record Grown (fs : List (List ℕ)) (at : ℕ) (out : List ℕ) (r : ℕ) (o
   pub back : drop r out' ≡ drop r out
   pub size : length out' ≡ length out
 
--- the bytes of n cells from `first` on, behind the first three of a frame
-pub record CellsPut (cells : List ℤ) (first n : ℕ) (frame frame' : List ℕ) : Type 0 where
+-- the bytes of cells behind the first three of a frame
+pub record CellsPut (cells : List ℤ) (frame frame' : List ℕ) : Type 0 where
   pub size : length frame' ≡ length frame
-  pub put : take (3 + 2 * n) frame' ≡ take 3 frame ++ number_bytes (take n (drop first cells))
+  pub put : take (3 + 2 * length cells) frame' ≡ take 3 frame ++ number_bytes cells
 
-pub record TableLined (t rows columns : ℕ) (cells : List ℤ) (first at : ℕ) (out : List ℕ) (r : ℕ) (out' : List ℕ) : Type 0 where
+-- the line of a table with these cells
+pub record TableLined (t rows : ℕ) (cells : List ℤ) (at : ℕ) (out : List ℕ) (r : ℕ) (out' : List ℕ) : Type 0 where
   pub size : length out' ≡ length out
   pub near : r ≤ at + 135
-  pub lined : rows * columns ≤ 32 → first + rows * columns ≤ length cells → at + 135 ≤ length out
-      → Grown ((0x81 ∷ t ∷ rows ∷ number_bytes (take (rows * columns) (drop first cells))) ∷ []) at out r out'
+  pub lined : length cells ≤ 32 → at + 135 ≤ length out → Grown ((0x81 ∷ t ∷ rows ∷ number_bytes cells) ∷ []) at out r out'
 
 -- the cells of a file's tables are vs, and `cells` begins with them; `shape` has the tables' sizes
 pub record Tabled (F : File) (vs : List Value) (shape : List ℕ) (tables : ℕ) (cells : List ℤ) : Type 0 where

@@ -1,4 +1,5 @@
-// A text that grows in a buffer with room for both sentences of a refusal.
+// A text that grows in a buffer with room for both sentences of a refusal. (With the size as a const parameter the check finds no proof of
+// `push_figures`, which calls itself.)
 ghost use Rattle.std.specs.Prelude.{◌≡◌, ◌+◌, ◌≤◌, ◌<◌, ◌++◌, ◌∷◌, [], List, ℕ, length, take};
 ghost use Rattle.sentences.specs.Sentence.{figures};
 ghost use Rattle.sentences.specs.Answers.{Put};
@@ -58,10 +59,10 @@ impl Buffer {
         ensures { self.new ≡ self.old ++ figures n }
     {
         if n < 10 {
-            return self.push(n as u8 + 48);
+            return self.push(n as u8 + b'0');
         }
         self.push_figures(n / 10);
-        self.push((n % 10) as u8 + 48)
+        self.push((n % 10) as u8 + b'0')
     }
 
     // The text at the front of another buffer, and its length; 0 for a shorter one, which stays as it is.

@@ -82,7 +82,7 @@ impl Place {
 fn is_known(number: u8) -> bool
     ensures { result ≡ ltb 0 number && ltb number 19 }
 {
-    1 <= number && number <= LAST
+    (1..=LAST).contains(&number)
 }
 
 // Entry n of the sentences at a place.
@@ -126,7 +126,7 @@ fn push_closed(text: &mut Buffer, language: Language, number: u8, line: u16)
     ensures { text.new ≡ text.old ++ (sentence (language_in language) number line ++ 10 ∷ []) }
 {
     push_sentence(text, language, number, line);
-    text.push(10)
+    text.push(b'\n')
 }
 
 // The sentence of a refusal in language 0, English, or 1, French, and its length; 0 for a buffer without room or another language, and

@@ -98,7 +98,7 @@ const FRENCH: [u8; 4587] = *b"\
 fn first_line(text: &[u8]) -> &[u8]
     ensures { result.now ≡ first_line text.now }
 {
-    match text.iter().position(|b| *b == 10) {
+    match text.iter().position(|b| *b == b'\n') {
         Some(i) => &text[..i],
         None => text,
     }
@@ -108,7 +108,7 @@ fn first_line(text: &[u8]) -> &[u8]
 fn past_line(text: &[u8]) -> &[u8]
     ensures { result.now ≡ past_line text.now }
 {
-    let Some(i) = text.iter().position(|b| *b == 10) else {
+    let Some(i) = text.iter().position(|b| *b == b'\n') else {
         return &[];
     };
     &text[i + 1..]

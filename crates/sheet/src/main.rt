@@ -13,11 +13,10 @@ use sentences;
 fn sheet(text: &[u8], out: &mut [u8]) -> usize
     ensures { Put (sheet_of text.now) out.old result out.new }
 {
-    let p = plan::check(text);
-    if p.number == 0 {
-        return 0;
+    match plan::check(text) {
+        Ok(_) => 0,
+        Err(refusal) => sentences::both_sentences(refusal.reason.number(), refusal.line, out),
     }
-    sentences::both_sentences(p.number, p.line, out)
 }
 
 // Its output by the definition. A full buffer for the input is refused whatever follows.

@@ -1,10 +1,10 @@
 // Relations in the lent work area. Only this crate knows how their rows lie.
 #![tactic(auto)]
 
-ghost use Rattle.std.specs.Prelude.{◌≡◌, ℕ, ◌≤◌, ◌<◌};
+ghost use Rattle.std.specs.Prelude.{◌≡◌, IsTrue, ℕ, ◌≤◌, ◌<◌, length};
 ghost use Rattle.value.specs.Machine.{value_of};
 ghost use Rattle.meaning.specs.Evaluation.{missing};
-ghost use Rattle.store.specs.Layout.{relation_limit, row_limit, column_limit, inside as inside_b, position as position_n, cell_in, put_cell};
+ghost use Rattle.store.specs.Layout.{relation_limit, row_limit, column_limit, area, inside as inside_b, position as position_n, cell_in, put_cell};
 ghost use Rattle.store.specs.Rows.{listed, put_cells, room as room_b, put_row, row_of, with_value};
 
 use value::datum::Datum;
@@ -48,12 +48,15 @@ pub fn with_value(row: Row, c: usize, v: Datum) -> Row
     Row { values }
 }
 
+#[tactic(auto, unfolding(crate::specs::Strides::inside))]
 fn inside(relation: usize, row: usize, column: usize) -> bool
-    ensures { result ≡ inside_b relation row column }
+    ensures told { result ≡ inside_b relation row column }
+    ensures limits { IsTrue result → (relation < relation_limit) × (row < row_limit) × (column < column_limit) }
 {
     relation < RELATIONS && (row < ROWS && column < COLUMNS)
 }
 
+#[tactic(auto, unfolding(crate::specs::Strides::position))]
 fn position(relation: usize, row: usize, column: usize) -> usize
     requires { (relation < relation_limit) × (row < row_limit) × (column < column_limit) }
     ensures { result ≡ position_n relation row column }
@@ -102,8 +105,10 @@ fn put_row(part: &mut [i32], at: usize, width: usize, row: Row)
     }
 }
 
+#[tactic(auto, unfolding(crate::specs::Strides::room))]
 fn room(work: &[i32], relation: usize, at: usize, width: usize) -> bool
-    ensures { result ≡ room_b work.now relation at width }
+    ensures told { result ≡ room_b work.now relation at width }
+    ensures limits { IsTrue result → (relation < relation_limit) × (at < row_limit) × (width ≤ column_limit) × (area ≤ length work.now) }
 {
     relation < RELATIONS && (at < ROWS && (width <= COLUMNS && AREA <= work.len()))
 }

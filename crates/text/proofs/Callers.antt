@@ -1,14 +1,15 @@
--- What a caller of the decoder learns from the number that it answers. Assumes nothing.
+-- What a caller of the decoder learns from its answer. Assumes nothing.
 use mathlib.Core.Path.{◌≡◌, refl, sym, ap, ap₂, ◌∙◌}
-use mathlib.Core.Logic.{⊎_elim}
 use mathlib.Core.List.{List}
 use Prim.Native.Nat.{ℕ, ◌≤◌}
 use native.Mathlib.Omega.{arith}
 use lib.ListN.{length, take, length-take}
+use Rattle.std.proofs.Common.{Ok, Err}
 use Rattle.text.specs.Text.{Lines, frames, refused, frames_of}
 use Rattle.text.specs.Answers.{Holds, Decoded}
+use Rattle.text.specs.Refusals.{number_of}
 use Rattle.text.specs.declared.Frames.{Frames}
-use Rattle.text.proofs.Refusals.{refusal-number}
+use Rattle.text.specs.declared.refusal.Refusal.{Refusal}
 
 -- the bytes in use are among those of the array
 pub used-length : {fs : List (List ℕ)} {r : Frames} → Holds fs r → length (take r.used r.bytes) ≡ r.used
@@ -17,19 +18,19 @@ used-length h = ap length h.packed ∙ sym h.used
 pub used-fits : {fs : List (List ℕ)} {r : Frames} → Holds fs r → r.used ≤ 5462
 used-fits h = omega (arith, simp length-take at (used-length h), h.wide)
 
-module _ (text : List ℕ) (r : Frames) (d : Decoded (frames_of text) r) where
-  -- number 0: the frames
-  pub accepted : r.number ≡ 0 → (fs : List (List ℕ)) × (frames_of text ≡ frames fs) × Holds fs r
-  accepted z = go (frames_of text) refl d
+module _ (text : List ℕ) where
+  -- Ok: the frames
+  pub accepted : (r : Frames) → Decoded (frames_of text) (Ok r) → (fs : List (List ℕ)) × (frames_of text ≡ frames fs) × Holds fs r
+  accepted r d = go (frames_of text) refl d
     where
-      go : (l : Lines) → frames_of text ≡ l → Decoded l r → (fs : List (List ℕ)) × (frames_of text ≡ frames fs) × Holds fs r
+      go : (l : Lines) → frames_of text ≡ l → Decoded l (Ok r) → (fs : List (List ℕ)) × (frames_of text ≡ frames fs) × Holds fs r
       go (frames fs) e h = (fs, e, h)
-      go (refused n k) e h = ⊎_elim (λ p. absurd (omega (arith, p, h.number))) (λ p. absurd (omega (arith, p, h.number))) (refusal-number text n k e)
+      go (refused n k) e h = absurd h
 
-  -- any other: the refusal
-  pub refused_as : (r.number ≡ 0 → ⊥) → frames_of text ≡ refused r.number r.line
-  refused_as z = go (frames_of text) refl d
+  -- Err: the refusal
+  pub refused_as : (r : Refusal) → Decoded (frames_of text) (Err r) → frames_of text ≡ refused (number_of r.reason) r.line
+  refused_as r d = go (frames_of text) refl d
     where
-      go : (l : Lines) → frames_of text ≡ l → Decoded l r → frames_of text ≡ refused r.number r.line
-      go (frames fs) e h = absurd (z h.number)
+      go : (l : Lines) → frames_of text ≡ l → Decoded l (Err r) → frames_of text ≡ refused (number_of r.reason) r.line
+      go (frames fs) e h = absurd h
       go (refused n k) e h = e ∙ sym (ap₂ refused h.number h.line)

@@ -8,5 +8,6 @@ pub mod Refusals
 pub mod Complete
 -- for callers
 pub mod Callers
+pub mod Exits
 pub mod Writing
 pub mod Examples

@@ -15,8 +15,12 @@ use Rattle.value.proofs.Decides.{by-test}
 use Rattle.value.proofs.Places.{from_byte}
 use Rattle.text.specs.Text.{Lines, frames, refused, between, line_after, read_on, ended, lines_of}
 use Rattle.text.specs.Pair.{PairRead, pair_of}
+use Rattle.std.proofs.Common.{Result, Ok, Err}
 use Rattle.text.specs.Answers.{pack, blank_frames, Refuses, Decoded}
+use Rattle.text.specs.Refusals.{number_of}
 use Rattle.text.specs.declared.Frames.{Frames}
+use Rattle.text.specs.declared.refusal.Refusal.{Refusal}
+use Rattle.text.specs.declared.refusal.Reason.TheVariants.{Line}
 use Rattle.text.proofs.Runs.{pair-long, run-byte, run-close, run-no-pair, run_long, run-empty}
 
 pack-snoc : (done : List (List ℕ)) (f : List ℕ) → pack (done ++ f ∷ []) ≡ pack done ++ length f ∷ f
@@ -51,8 +55,6 @@ pub record Here (text : List ℕ) (r : Frames) (line at size : ℕ) : Type 0 whe
   pub slot : get_or r.bytes r.used 0 ≡ 0
   pub rest : (i : ℕ) → r.used + 1 + size ≤ i → get_or r.bytes i 0 ≡ 0
   pub line-is : line ≡ line_after done
-  pub number_is : r.number ≡ 0
-  pub no_line : r.line ≡ 0
   pub within : at ≤ length text
   -- the shortest line has three characters and takes two bytes
   pub room : 3 * r.used + 4 * size ≤ 2 * at
@@ -65,7 +67,7 @@ zero-at zero i = refl
 zero-at (suc n) zero = refl
 zero-at (suc n) (suc i) = zero-at n i
 
-pub begin : (text : List ℕ) (r : Frames) → r ≡ blank_frames 0 0 → Here text r 1 0 0
+pub begin : (text : List ℕ) (r : Frames) → r ≡ blank_frames → Here text r 1 0 0
 unfolding pack blank_frames
 begin text r b =
     let bytes : r.bytes ≡ replicate 5462 0 = ap (λ (x : Frames). x.bytes) b in
@@ -81,8 +83,6 @@ begin text r b =
       slot = ap (λ (l : List ℕ). get_or l r.used 0) bytes ∙ zero-at 5462 r.used;
       rest = λ i _. ap (λ (l : List ℕ). get_or l i 0) bytes ∙ zero-at 5462 i;
       line-is = refl;
-      number_is = ap (λ (x : Frames). x.number) b;
-      no_line = ap (λ (x : Frames). x.line) b;
       within = omega arith;
       room = omega (arith, used);
       few = omega arith;
@@ -91,40 +91,40 @@ begin text r b =
     }
 
 -- a refusal at the line that is read
-pub refusal-of : {n k : ℕ} {r : Frames} → r ≡ blank_frames n k → Refuses n k r
-unfolding blank_frames
-refusal-of b = record { number = ap (λ (x : Frames). x.number) b; line = ap (λ (x : Frames). x.line) b; blank = b }
+abbrev line_refusal : ℕ → Refusal
+line_refusal k = record { reason = Line; line = k }
 
 module _ {text : List ℕ} {r : Frames} {line at size : ℕ} (h : Here text r line at size) where
-  refuses : {b : Frames} → b ≡ blank_frames 2 line → lines_of text ≡ refused 2 (line_after h.done) → Decoded (lines_of text) b
-  refuses {b} q e = subst⁻¹ (λ (l : Lines). Decoded l b) e (refusal-of (q ∙ ap (blank_frames 2) h.line-is))
+  refuses : {b : Refusal} → b ≡ line_refusal line → lines_of text ≡ refused 2 (line_after h.done) → Decoded (lines_of text) (Err b)
+  refuses {b} q e =
+      subst⁻¹ (λ (l : Lines). Decoded l (Err b)) e (record { number = ap (λ (x : Refusal). number_of x.reason) q; line = ap (λ (x : Refusal). x.line) q ∙ h.line-is })
 
   -- what is left begins with a character, and gives what it gives
   ends : at < length text → (l : Lines) → ended (read_on (between h.done h.frame) (get_or text at 0 ∷ drop (at + 1) text)) ≡ l → lines_of text ≡ l
   unfolding lines_of
   ends k l e = ap ended (h.left ∙ ap (read_on (between h.done h.frame)) (from_byte text at k)) ∙ e
 
-  pub empty-line : {b : Frames} → b ≡ blank_frames 2 line → at < length text → get_or text at 0 ≡ 10 → size ≡ 0 → Decoded (lines_of text) b
+  pub empty-line : {b : Refusal} → b ≡ line_refusal line → at < length text → get_or text at 0 ≡ 10 → size ≡ 0 → Decoded (lines_of text) (Err b)
   empty-line q k c z = refuses q (ends k _ (run-empty _ _ _ _ (eq-eqb _ 10 c) (nil h.frame (omega (arith, h.size_is)))))
     where
       nil : (l : List ℕ) → length l ≡ 0 → l ≡ []
       nil [] e = refl
       nil (x ∷ xs) e = absurd (omega arith)
 
-  pub long-line : {b : Frames} → b ≡ blank_frames 2 line → at < length text → (get_or text at 0 ≡ 10 → ⊥) → 120 ≤ size → Decoded (lines_of text) b
+  pub long-line : {b : Refusal} → b ≡ line_refusal line → at < length text → (get_or text at 0 ≡ 10 → ⊥) → 120 ≤ size → Decoded (lines_of text) (Err b)
   long-line q k c z = refuses q (ends k _ (run_long _ _ _ _ (ne_eqb _ 10 c) (omega (arith, h.size_is))))
 
   -- the character at `at` is no LF
   other : at < length text → (get_or text at 0 ≡ 10 → ⊥) → eqb (get_or (drop at text) 0 0) 10 ≡ false
   other k c = rw (from_byte text at k) (ne_eqb _ 10 c)
 
-  pub no-pair : {b : Frames} → b ≡ blank_frames 2 line → at < length text → (get_or text at 0 ≡ 10 → ⊥) → pair_of (drop at text) ≡ PairRead.refused 2
-      → Decoded (lines_of text) b
+  pub no-pair : {b : Refusal} → b ≡ line_refusal line → at < length text → (get_or text at 0 ≡ 10 → ⊥) → pair_of (drop at text) ≡ PairRead.refused 2
+      → Decoded (lines_of text) (Err b)
   unfolding lines_of
   no-pair q k c e = refuses q (ap ended h.left ∙ run-no-pair h.done h.frame (drop at text) (other k c) (simp length-drop (omega arith)) e)
 
   pub one_byte : (v : ℕ) → length text ≤ 8192 → at < length text → (get_or text at 0 ≡ 10 → ⊥) → size < 120 → pair_of (drop at text) ≡ PairRead.byte v
-      → Here text (record { bytes = set r.bytes (r.used + 1 + size) v; used = r.used; number = r.number; line = r.line }) line (at + 2) (size + 1)
+      → Here text (record { bytes = set r.bytes (r.used + 1 + size) v; used = r.used }) line (at + 2) (size + 1)
   one_byte v s k c few e =
       let long : 2 ≤ length (drop at text) = pair-long (drop at text) e in
       let two : at + 2 ≤ length text = omega (arith, simp length-drop at long) in
@@ -140,8 +140,6 @@ module _ {text : List ℕ} {r : Frames} {line at size : ℕ} (h : Here text r li
         slot = get_or-set_other r.bytes (r.used + 1 + size) r.used v 0 (λ q. omega arith) ∙ h.slot;
         rest = λ i l. get_or-set_other r.bytes (r.used + 1 + size) i v 0 (λ q. omega arith) ∙ h.rest i (omega arith);
         line-is = h.line-is;
-        number_is = h.number_is;
-        no_line = h.no_line;
         within = two;
         room = omega arith;
         few = omega arith;
@@ -150,7 +148,7 @@ module _ {text : List ℕ} {r : Frames} {line at size : ℕ} (h : Here text r li
       }
 
   pub close-line : length text ≤ 8192 → at < length text → get_or text at 0 ≡ 10 → (size ≡ 0 → ⊥)
-      → Here text (record { bytes = set r.bytes r.used size; used = r.used + 1 + size; number = r.number; line = r.line }) (line + 1) (at + 1) 0
+      → Here text (record { bytes = set r.bytes r.used size; used = r.used + 1 + size }) (line + 1) (at + 1) 0
   close-line s k c full =
       let sized : 0 < length h.frame = omega arith in
       record {
@@ -164,8 +162,6 @@ module _ {text : List ℕ} {r : Frames} {line at size : ℕ} (h : Here text r li
         slot = get_or-set_other r.bytes r.used (r.used + 1 + size) size 0 (λ q. omega arith) ∙ h.rest (r.used + 1 + size) (omega arith);
         rest = λ i l. get_or-set_other r.bytes r.used i size 0 (λ q. omega arith) ∙ h.rest i (omega arith);
         line-is = simp length-append (omega arith);
-        number_is = h.number_is;
-        no_line = h.no_line;
         within = omega arith;
         room = omega arith;
         few = omega arith;
@@ -178,10 +174,10 @@ module _ {text : List ℕ} {r : Frames} {line at size : ℕ} (h : Here text r li
   unfolding lines_of read_on
   over k = ap ended (h.left ∙ ap (read_on (between h.done h.frame)) (drop_of_length-le text k))
 
-  pub good-end : length text ≤ at → size ≡ 0 → Decoded (lines_of text) r
+  pub good-end : length text ≤ at → size ≡ 0 → Decoded (lines_of text) (Ok r)
   good-end k z =
-      subst⁻¹ (λ (l : Lines). Decoded l r) (over k ∙ go h.frame (omega arith))
-      (record { number = h.number_is; line = h.no_line; used = h.used-is; packed = h.packed; rest = behind; wide = h.wide })
+      subst⁻¹ (λ (l : Lines). Decoded l (Ok r)) (over k ∙ go h.frame (omega arith))
+      (record { used = h.used-is; packed = h.packed; rest = behind; wide = h.wide })
     where
       behind : (i : ℕ) → r.used ≤ i → get_or r.bytes i 0 ≡ 0
       behind i l = by-test (eqb i r.used)
@@ -192,7 +188,7 @@ module _ {text : List ℕ} {r : Frames} {line at size : ℕ} (h : Here text r li
       go [] e = refl
       go (b ∷ bs) e = absurd (omega arith)
 
-  pub bad-end : {b : Frames} → b ≡ blank_frames 2 line → length text ≤ at → (size ≡ 0 → ⊥) → Decoded (lines_of text) b
+  pub bad-end : {b : Refusal} → b ≡ line_refusal line → length text ≤ at → (size ≡ 0 → ⊥) → Decoded (lines_of text) (Err b)
   bad-end q k z = refuses q (over k ∙ go h.frame (omega arith))
     where
       go : (f : List ℕ) → 0 < length f → ended (between h.done f) ≡ refused 2 (line_after h.done)

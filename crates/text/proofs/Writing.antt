@@ -60,49 +60,44 @@ module _ (frame out : List ℕ) (at : ℕ) where
       let t : fits frame at out ≡ false = lt-leb (at + length (line frame)) (length out) (omega (arith, length-line frame)) in
       record { next = simp t; left = simp t }
 
-  pub record Turn (now : List ℕ) (i place : ℕ) : Type 0 where
+  pub record Turn (now : List ℕ) (i : ℕ) : Type 0 where
     pub left : now ≡ paste out at (line frame) (2 * i)
-    pub place_is : place ≡ at + 2 * i
     pub within : i ≤ length frame
     pub room : at + (2 * length frame + 1) ≤ length out
     pub same : length now ≡ length out
 
-  pub begin : at + (2 * length frame + 1) ≤ length out → Turn out 0 at
-  begin h = record { left = paste-zero out at (line frame); place_is = omega arith; within = omega arith; room = h; same = refl }
+  pub begin : at + (2 * length frame + 1) ≤ length out → Turn out 0
+  begin h = record { left = paste-zero out at (line frame); within = omega arith; room = h; same = refl }
 
-  module _ {now : List ℕ} {i place : ℕ} (t : Turn now i place) where
+  module _ {now : List ℕ} {i : ℕ} (t : Turn now i) where
     pub next-byte : (high low : ℕ) → i < length frame → high ≡ hex_digit (get_or frame i 0 / 16) → low ≡ hex_digit (get_or frame i 0 % 16)
-        → Turn (set (set now place high) (place + 1) low) (i + 1) (place + 2)
+        → Turn (set (set now (at + 2 * i) high) (at + 2 * i + 1) low) (i + 1)
     next-byte high low h p q =
         let n : length (line frame) ≡ 2 * length frame + 1 = length-line frame in
         let first : set (paste out at (line frame) (2 * i)) (at + 2 * i) (get_or (line frame) (2 * i) 0) ≡ paste out at (line frame) (suc (2 * i)) =
         paste-suc out at (line frame) (2 * i) 0 (omega arith) (omega arith) in
         let second : set (paste out at (line frame) (suc (2 * i))) (at + suc (2 * i)) (get_or (line frame) (suc (2 * i)) 0) ≡ paste out at (line frame) (suc (suc (2 * i))) =
         paste-suc out at (line frame) (suc (2 * i)) 0 (omega arith) (omega arith) in
-        let here : place ≡ at + 2 * i = t.place_is in
-        let there : place + 1 ≡ at + suc (2 * i) = omega arith in
+        let there : at + 2 * i + 1 ≡ at + suc (2 * i) = omega arith in
         let turn : 2 * (i + 1) ≡ suc (suc (2 * i)) = omega arith in
         record {
-          left = rw (t.left, there, here, turn, p, q, ← line-high frame i h, first, ← line_low frame i h) second;
-          place_is = omega arith;
+          left = rw (t.left, there, turn, p, q, ← line-high frame i h, first, ← line_low frame i h) second;
           within = omega arith;
           room = t.room;
           same = simp length-set t.same;
         }
 
-    pub line-done : length frame ≤ i → Written frame at out (place + 1) (set now place 10)
+    pub line-done : i ≡ length frame → Written frame at out (at + 2 * length frame + 1) (set now (at + 2 * length frame) 10)
     unfolding written behind
-    line-done h =
+    line-done e =
         let n : length (line frame) ≡ 2 * length frame + 1 = length-line frame in
-        let e : i ≡ length frame = omega (arith, t.within) in
-        let here : place ≡ at + 2 * length frame = omega (arith, t.place_is) in
         let yes-fits : fits frame at out ≡ true = le-leb (at + length (line frame)) (length out) (omega (arith, t.room)) in
         let last : set (paste out at (line frame) (2 * length frame)) (at + 2 * length frame) (get_or (line frame) (2 * length frame) 0) ≡ paste out at (line frame) (suc (2 * length frame)) =
         paste-suc out at (line frame) (2 * length frame) 0 (omega (arith, t.room)) (omega arith) in
         let whole : suc (2 * length frame) ≡ length (line frame) = omega arith in
         record {
           next = rw yes-fits (omega arith);
-          left = rw (yes-fits, t.left, here, e, ← line-end frame, last, whole, take-length (line frame)) refl;
+          left = rw (yes-fits, t.left, e, ← line-end frame, last, whole, take-length (line frame)) refl;
         }
 
 -- ---- what is written

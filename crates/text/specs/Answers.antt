@@ -1,7 +1,9 @@
 -- What the functions on text answer and leave. Assumes nothing: these are definitions.
-use Rattle.std.specs.Prelude.{◌≡◌, Bool, cond, List, [], ◌∷◌, ◌++◌, ℕ, ◌+◌, ◌≤◌, leb, length, get_or, take, drop, replicate}
+use Rattle.std.specs.Prelude.{◌≡◌, Bool, cond, List, [], ◌∷◌, ◌++◌, ℕ, ◌+◌, ◌≤◌, leb, length, get_or, take, drop, replicate, Result, Ok, Err}
 use Rattle.text.specs.Text.{Lines, frames, refused, line}
+use Rattle.text.specs.Refusals.{number_of}
 use Rattle.text.specs.declared.Frames.{Frames}
+use Rattle.text.specs.declared.refusal.Refusal.{Refusal}
 
 -- ---- decoding
 
@@ -10,28 +12,27 @@ unfoldable pub pack : List (List ℕ) → List ℕ
 pack [] = []
 pack (f ∷ fs) = length f ∷ f ++ pack fs
 
--- no frames, with a number and a line
-unfoldable pub blank_frames : ℕ → ℕ → Frames
-blank_frames n k = record { bytes = replicate 5462 0; used = 0; number = n; line = k }
+-- no frames
+unfoldable pub blank_frames : Frames
+blank_frames = record { bytes = replicate 5462 0; used = 0 }
 
 -- the frames fs, decoded; every other byte is 0
 pub record Holds (fs : List (List ℕ)) (r : Frames) : Type 0 where
-  pub number : r.number ≡ 0
-  pub line : r.line ≡ 0
   pub used : r.used ≡ length (pack fs)
   pub packed : take r.used r.bytes ≡ pack fs
   pub rest : (i : ℕ) → r.used ≤ i → get_or r.bytes i 0 ≡ 0
   pub wide : length r.bytes ≡ 5462
 
 -- "A refusal returns its number and a line"
-pub record Refuses (n k : ℕ) (r : Frames) : Type 0 where
-  pub number : r.number ≡ n
+pub record Refuses (n k : ℕ) (r : Refusal) : Type 0 where
+  pub number : number_of r.reason ≡ n
   pub line : r.line ≡ k
-  pub blank : r ≡ blank_frames n k
 
-abbrev pub Decoded : Lines → Frames → Type 0
-Decoded (frames fs) r = Holds fs r
-Decoded (refused n k) r = Refuses n k r
+abbrev pub Decoded : Lines → Result Frames Refusal → Type 0
+Decoded (frames fs) (Ok r) = Holds fs r
+Decoded (frames fs) (Err r) = ⊥
+Decoded (refused n k) (Ok r) = ⊥
+Decoded (refused n k) (Err r) = Refuses n k r
 
 -- ---- writing
 

@@ -1,5 +1,6 @@
--- The number of each refusal. Assumes nothing: this is a definition, and it computes.
-use Rattle.std.specs.Prelude.{ℕ}
+-- The number of each refusal. Assumes nothing: these are definitions, and they compute.
+use Rattle.std.specs.Prelude.{ℕ, ◌+◌, ◌*◌}
+use Rattle.text.specs.declared.refusal.Refusal.{Refusal}
 use Rattle.text.specs.declared.refusal.Reason.{Reason}
 use Rattle.text.specs.declared.refusal.Reason.TheVariants.{Size, Line, Order, Form, Limit, Reference, Aggregate, RowBound, Range, Candidates, WorkArea, Instance, Start}
 
@@ -18,3 +19,7 @@ number_of Candidates = 10
 number_of WorkArea = 11
 number_of Instance = 12
 number_of Start = 13
+
+-- the number above the line, which has two bytes
+abbrev pub packed_refusal : Refusal → ℕ
+packed_refusal r = number_of r.reason * 65536 + r.line

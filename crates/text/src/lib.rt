@@ -8,24 +8,16 @@ ghost use Rattle.text.specs.Text.{hex_value, hex_digit, lines_of, frames_of};
 ghost use Rattle.text.specs.Pair.{pair_of, pair_told};
 ghost use Rattle.text.specs.Answers.{blank_frames, Decoded, Written};
 
+use refusal::{Reason, Refusal};
+
 // Room for the frames of 8,192 bytes of text, each behind its length: the shortest line has three bytes and takes two.
 pub const ROOM: usize = 5462;
 
-// Number 0: the frames, in the first `used` bytes; the line and every other byte are 0. Any other number: a refusal at that line, beside which
-// every other field is 0.
+// The frames, in the first `used` bytes; every other byte is 0.
 #[derive(Drop)]
 pub struct Frames {
     pub bytes: [u8; ROOM],
     pub used: usize,
-    pub number: u8,
-    pub line: u16,
-}
-
-// The byte of two digits, or none.
-#[derive(Clone, Copy)]
-enum HexPair {
-    Byte(u8),
-    Wrong,
 }
 
 // The value of a digit; 16 for any other character.
@@ -39,43 +31,41 @@ fn digit_of(c: u8) -> u8
     }
 }
 
-// The byte whose two digits stand at `at`.
-fn pair_at(text: &[u8], at: usize) -> HexPair
+// The byte whose two digits stand at `at`, if they do.
+fn pair_at(text: &[u8], at: usize) -> Option<u8>
     requires { at < length text.now }
     ensures { pair_told result ≡ pair_of (drop at text.now) }
 {
     if text.len() - at < 2 {
-        return HexPair::Wrong;
+        return None;
     }
     let high = digit_of(text[at]);
     let low = digit_of(text[at + 1]);
     if 16 <= high {
-        return HexPair::Wrong;
+        return None;
     }
     if 16 <= low {
-        return HexPair::Wrong;
+        return None;
     }
-    HexPair::Byte(16 * high + low)
+    Some(16 * high + low)
 }
 
-// No frames, with this number and line.
-fn blank(number: u8, line: u16) -> Frames
-    ensures { result ≡ blank_frames number line }
+// No frames.
+fn blank() -> Frames
+    ensures { result ≡ blank_frames }
 {
     Frames {
         bytes: [0u8; ROOM],
         used: 0,
-        number: number,
-        line: line,
     }
 }
 
-// The frames of the lines of a text, or its refusal by 2 at the first wrong line.
-fn lines_of(text: &[u8]) -> Frames
+// The frames of the lines of a text, or its refusal by 2 at the first wrong line. The loop counts by hand, for a turn reads one character or two.
+fn lines_of(text: &[u8]) -> Result<Frames, Refusal>
     requires { length text.now ≤ 8192 }
     ensures { Decoded (lines_of text.now) result }
 {
-    let mut r = blank(0, 0);
+    let mut r = blank();
     let mut line: u16 = 1;
     let mut at = 0;
     let mut size = 0;
@@ -83,7 +73,7 @@ fn lines_of(text: &[u8]) -> Frames
         let start = r.used;
         if text[at] == 10 {
             if size == 0 {
-                return blank(2, line);
+                return Err(Reason::Line.at(line));
             }
             r.bytes[start] = size as u8;
             r.used = start + 1 + size;
@@ -92,10 +82,10 @@ fn lines_of(text: &[u8]) -> Frames
             at = at + 1;
         } else {
             if 120 <= size {
-                return blank(2, line);
+                return Err(Reason::Line.at(line));
             }
-            let HexPair::Byte(byte) = pair_at(text, at) else {
-                return blank(2, line);
+            let Some(byte) = pair_at(text, at) else {
+                return Err(Reason::Line.at(line));
             };
             let place = start + 1 + size;
             r.bytes[place] = byte;
@@ -104,21 +94,21 @@ fn lines_of(text: &[u8]) -> Frames
         }
     }
     if size == 0 {
-        return r;
+        return Ok(r);
     }
-    blank(2, line)
+    Err(Reason::Line.at(line))
 }
 
 // The frames of a text, or its refusal by 1 or 2.
 // Refused: 1 for a text of 8,192 bytes; no frames for an empty text.
-pub fn decode(text: &[u8]) -> Frames
+pub fn decode(text: &[u8]) -> Result<Frames, Refusal>
     ensures { Decoded (frames_of text.now) result }
 {
     if text.len() == 0 {
-        return blank(1, 0);
+        return Err(Reason::Size.at(0));
     }
     if 8192 < text.len() {
-        return blank(1, 0);
+        return Err(Reason::Size.at(0));
     }
     lines_of(text)
 }
@@ -145,14 +135,11 @@ pub fn write_line(frame: &[u8], out: &mut [u8], at: usize) -> usize
     if (out.len() - at - 1) / 2 < frame.len() {
         return at;
     }
-    let mut i = 0;
-    let mut place = at;
-    while i < frame.len() {
-        out[place] = hex_digit(frame[i] / 16);
-        out[place + 1] = hex_digit(frame[i] % 16);
-        place = place + 2;
-        i = i + 1;
+    for i in 0..frame.len() {
+        out[at + 2 * i] = hex_digit(frame[i] / 16);
+        out[at + 2 * i + 1] = hex_digit(frame[i] % 16);
     }
-    out[place] = 10;
-    place + 1
+    let end = at + 2 * frame.len();
+    out[end] = 10;
+    end + 1
 }

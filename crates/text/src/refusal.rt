@@ -1,6 +1,6 @@
 // A refusal: which condition a text, a file or a call meets, and the line.
 ghost use Rattle.std.specs.Prelude.{◌≡◌};
-ghost use Rattle.text.specs.Refusals.{number_of};
+ghost use Rattle.text.specs.Refusals.{number_of, packed_refusal};
 
 // The conditions of a refusal, by their numbers: a text's size and its lines; of a frame its kind's place in the order, its form, a field's limits,
 // what it refers to, the rule on aggregates, its row bound and its ranges; the number of candidates; and of a call the work area, the instance
@@ -30,6 +30,17 @@ impl Reason {
     {
         self as u8
     }
+
+    // The refusal for this reason at a line.
+    // Refused: line 0; a line next to it.
+    pub fn at(self, line: u16) -> Refusal
+        ensures { result ≡ record { reason = self; line = line } }
+    {
+        Refusal {
+            reason: self,
+            line: line,
+        }
+    }
 }
 
 // Line 0 stands where no line is said.
@@ -37,4 +48,14 @@ impl Reason {
 pub struct Refusal {
     pub reason: Reason,
     pub line: u16,
+}
+
+impl Refusal {
+    // The number and the line in one word, as the C interface gives them.
+    // Refused: the line left out; 65535 for 65536.
+    pub fn packed(self) -> u32
+        ensures { result ≡ packed_refusal self }
+    {
+        (self.reason.number() as u32) * 65536 + (self.line as u32)
+    }
 }

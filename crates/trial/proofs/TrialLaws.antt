@@ -21,6 +21,9 @@ use Rattle.language.proofs.TextLaws.{accepted-text}
 use Rattle.catalog.specs.FileIn.{Source, source_of, TablesCounted, goal_of}
 use Rattle.catalog.specs.declared.plan.Goal.{Goal}
 use Rattle.catalog.specs.declared.plan.Plan.{Plan}
+use Rattle.std.proofs.Common.{Ok, Err}
+use Rattle.text.specs.Refusals.{packed_refusal}
+use Rattle.text.specs.declared.refusal.Refusal.{Refusal}
 use Rattle.checker.specs.Plans.{Plans}
 use Rattle.store.specs.Layout.{area}
 use Rattle.store.proofs.RowLaws.{only-more, only_wider}
@@ -47,14 +50,13 @@ enough-trial {counts = counts} {work = work} h k t = record {
   enough = λ _ _. t;
 }
 
-refused-text : (out : Outcome) (p : Plan) → Plans out p → (p.number ≡ 0 → ⊥) → (counts : List ℕ) (work : List ℤ)
-    → TriedText out counts work (p.number * 65536 + p.line) counts work
-refused-text (Outcome.refused n line) p h k counts work = (ap₂ (λ a b. a * 65536 + b) h.0 h.1, refl, refl)
-refused-text (Outcome.accepted F) p h k counts work = absurd (k h.number)
+refused-text : (out : Outcome) (x : Refusal) → Plans out (Err x) → (counts : List ℕ) (work : List ℤ) → TriedText out counts work (packed_refusal x) counts work
+refused-text (Outcome.refused n line) x h counts work = (ap₂ (λ a b. a * 65536 + b) h.0 h.1, refl, refl)
+refused-text (Outcome.accepted F) x h counts work = absurd h
 
-pub refused-trial : (out : Outcome) (p : Plan) {counts : List ℕ} {work : List ℤ} → area ≤ length work → 16 ≤ length counts → Plans out p → (p.number ≡ 0 → ⊥)
-    → Tried out counts work (p.number * 65536 + p.line) counts work
-refused-trial out p {counts} {work} a b h k = enough-trial a b (refused-text out p h k counts work)
+pub refused-trial : (out : Outcome) (x : Refusal) {counts : List ℕ} {work : List ℤ} {r : ℕ} → area ≤ length work → 16 ≤ length counts → Plans out (Err x)
+    → r ≡ packed_refusal x → Tried out counts work r counts work
+refused-trial out x {counts} {work} a b h e = rw e (enough-trial a b (refused-text out x h counts work))
 
 -- ---- an accepted text
 
@@ -92,9 +94,9 @@ every-relation {source} {needs} {g} {counts₁ = counts₁} {work} {memory₂} C
 }
 
 accepted-text-trial : (out : Outcome) (p : Plan) {counts counts' : List ℕ} {work work' : List ℤ} {b : Bool} {r : ℕ} → area ≤ length work → 16 ≤ length counts
-    → Plans out p → p.number ≡ 0 → EveryRelation (source_of p) p.goal counts work b counts' work' → r ≡ cond b 1 0 → TriedText out counts work r counts' work'
-accepted-text-trial (Outcome.refused n line) p whole size h z E v = absurd (h.2 (sym h.0 ∙ z))
-accepted-text-trial (Outcome.accepted F) p {counts' = counts'} {work' = work'} whole size h z E v = record {
+    → Plans out (Ok p) → EveryRelation (source_of p) p.goal counts work b counts' work' → r ≡ cond b 1 0 → TriedText out counts work r counts' work'
+accepted-text-trial (Outcome.refused n line) p whole size h E v = absurd h
+accepted-text-trial (Outcome.accepted F) p {counts' = counts'} {work' = work'} whole size h E v = record {
   cells = only_wider (λ i l. (omega (arith, l.0, h.file.tables), omega (arith, l.1, h.file.relations))) E.cells;
   size = E.size;
   others = λ i l. E.others i (omega (arith, h.file.tables)) (λ w. omega (arith, w.1, h.file.relations));
@@ -102,8 +104,8 @@ accepted-text-trial (Outcome.accepted F) p {counts' = counts'} {work' = work'} w
 }
 
 pub accepted-trial : (out : Outcome) (p : Plan) {counts counts' : List ℕ} {work work' : List ℤ} {b : Bool} {r : ℕ} → area ≤ length work → 16 ≤ length counts
-    → Plans out p → p.number ≡ 0 → EveryRelation (source_of p) p.goal counts work b counts' work' → r ≡ cond b 1 0 → Tried out counts work r counts' work'
-accepted-trial out p a b h z E v = enough-trial a b (accepted-text-trial out p a b h z E v)
+    → Plans out (Ok p) → EveryRelation (source_of p) p.goal counts work b counts' work' → r ≡ cond b 1 0 → Tried out counts work r counts' work'
+accepted-trial out p a b h E v = enough-trial a b (accepted-text-trial out p a b h E v)
 
 -- ---- by the algebra
 

@@ -2,14 +2,13 @@
 #![tactic(auto)]
 
 ghost use Rattle.language.specs.FileOf.{file_of};
-ghost use Rattle.catalog.specs.FileIn.{source_from};
+ghost use Rattle.catalog.specs.FileIn.{source_in};
 ghost use Rattle.trial.specs.Tried.{EveryRelation, Tried};
 
 use cases::needs::Needs;
 use cases::{judgement, needs};
-use catalog::outline;
-use catalog::outline::Outline;
 use catalog::plan::Goal;
+use catalog::source::Source;
 use checker::plan;
 
 // The work area and `counts` have at least this many entries.
@@ -21,22 +20,15 @@ const RELATIONS: usize = 16;
 const SHORT: u32 = 11 * 65536;
 
 // Whether the database is a case; then every relation is evaluated.
-fn every_relation(
-    bytes: &[u8],
-    shape: &[u8],
-    o: Outline,
-    goal: Goal,
-    counts: &mut [u8],
-    work: &mut [i32],
-) -> bool
-    ensures { EveryRelation (source_from bytes.now shape.now o) goal
+fn every_relation(source: &Source, goal: Goal, counts: &mut [u8], work: &mut [i32]) -> bool
+    ensures { EveryRelation (source_in source.now) goal
         counts.old work.old result counts.new work.new }
 {
-    outline::count_tables(shape, o.tables, counts);
-    let needs = needs::needs_of(bytes, shape, o, goal);
+    source.count_tables(counts);
+    let needs = needs::needs_of(source, goal);
     let mut signs = [0u8; 16];
-    let case = judgement::is_case(bytes, shape, o, &needs, goal, counts, &mut signs, work);
-    judgement::evaluate(bytes, shape, o, &Needs::all(), counts, &mut signs, work);
+    let case = judgement::is_case(source, &needs, goal, counts, &mut signs, work);
+    judgement::evaluate(source, &Needs::all(), counts, &mut signs, work);
     case
 }
 
@@ -54,13 +46,18 @@ pub extern "C" fn sakthveim_evaluate(text: &[u8], counts: &mut [u8], work: &mut 
     if counts.len() < RELATIONS {
         return SHORT;
     }
-    let p = plan::check(text);
-    if p.number != 0 {
-        return (p.number as u32) * 65536 + (p.line as u32);
-    }
+    let p = match plan::check(text) {
+        Ok(plan) => plan,
+        Err(refusal) => return refusal.packed(),
+    };
     let bytes = p.bytes;
     let shape = p.shape;
-    if every_relation(&bytes, &shape, p.outline, p.goal, counts, work) {
+    let source = Source {
+        bytes: &bytes,
+        shape: &shape,
+        outline: p.outline,
+    };
+    if every_relation(&source, p.goal, counts, work) {
         1
     } else {
         0

@@ -1,5 +1,5 @@
 -- The laws of the order of ℤ, of sums, differences, products and bounds. Assumes nothing.
-use mathlib.Core.Path.{◌≡◌}
+use mathlib.Core.Path.{◌≡◌, refl}
 use mathlib.Core.Bool.{cond}
 use mathlib.Core.Logic.{◌⊎◌, inl, inr}
 use Prim.Native.Nat.{ℕ, suc, ◌≤◌}
@@ -7,9 +7,10 @@ use native.Mathlib.Nat.{mul-le-mul_right}
 use native.Mathlib.Omega.{arith}
 use lib.IntN.{ℤ, pos, negsuc, ◌+ℤ◌, ◌-ℤ◌, ◌*ℤ◌, *ℤ_comm}
 use lib.Signed.{le_z, lt_z, ◌≤ℤ◌, ◌<ℤ◌, le_z_yes, lt_z_yes}
+use Rattle.std.specs.Int.{int_min, int_max}
 use Rattle.value.specs.Integer.{min_z, max_z, least_end, greatest_end}
 use Rattle.value.proofs.Decides.{Decides, by-test}
-use Rattle.value.proofs.Linear.{‵, ◌⊕◌, ◌⊖◌, ◌⊗◌, ≤-by, ≤-parts, le_z-true, le_z-false, ints}
+use Rattle.value.proofs.Linear.{‵, ◌⊕◌, ◌⊖◌, ◌⊗◌, ≤-by, ≤-parts, le_z-true, le_z-false, true-lt_z, false-lt_z, ints}
 
 -- ---- the order: reflexive, transitive, antisymmetric, total and decided
 pub ≤-self : (a : ℤ) → a ≤ℤ a
@@ -92,6 +93,16 @@ module _ (a b c : ℤ) where
       ≤-antisym
       (above-max (max_z a b) c (above-max a b r (≤_trans (max-above b c).0 s)) (≤_trans (max-above b c).1 s))
       (above-max a (max_z b c) (≤_trans (max-above a b).0 p) (above-max b c (≤_trans (max-above a b).1 p) q))
+
+-- ---- the library's are these
+module _ (a b : ℤ) where
+  pub min_is : int_min a b ≡ min_z a b
+  unfolding min_z
+  min_is = by-test (le_z a b) (λ e. rw (e, false-lt_z (le_z-true a b e)) refl) (λ e. rw (e, true-lt_z (le_z-false a b e)) refl)
+
+  pub max_is : int_max a b ≡ max_z a b
+  unfolding max_z
+  max_is = by-test (le_z a b) (λ e. rw (e, false-lt_z (le_z-true a b e)) refl) (λ e. rw (e, true-lt_z (le_z-false a b e)) refl)
 
 -- ---- z lies from lo to hi
 pub record In (lo hi z : ℤ) : Type 0 where

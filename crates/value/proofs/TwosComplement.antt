@@ -1,5 +1,5 @@
 -- Two's complement: sixteen bits and the number they stand for, each way. Assumes nothing.
-use mathlib.Core.Path.{◌≡◌, refl, ap, ◌∙◌}
+use mathlib.Core.Path.{◌≡◌, refl, sym, ap, ◌∙◌}
 use mathlib.Core.Bool.{Bool, true, false, cond}
 use Prim.Native.Nat.{ℕ, suc, ◌+◌, ◌*◌, ◌-◌, ◌<◌, ◌≤◌}
 use native.Mathlib.Nat.{div-add-mod'}
@@ -7,10 +7,12 @@ use native.Mathlib.Omega.{arith}
 use lib.Dec.{ltb}
 use lib.IntN.{ℤ, pos, negsuc, ◌-ℤ◌}
 use lib.Signed.{◌≤ℤ◌, ◌<ℤ◌}
-use borrow.Author.Tests.{lt-ltb, le-ltb}
+use borrow.Author.Tests.{lt-ltb, le-ltb, ltb-true, ltb-false}
 use mir.Syntax.{w16}
-use mir.Val.{SFits}
+use mir.Val.{SFits, to_z, of_z}
+use mir.Facts.{to_z_pos, to_z-neg}
 use Rattle.value.specs.Integer.{signed_of, bytes_z, bits_of, high_byte, low_byte}
+use Rattle.value.proofs.Decides.{by-test}
 use Rattle.value.proofs.Linear.{plus, minus, parts-≡, diff-parts, ints}
 
 pub signed_low : (n : ℕ) → n < 32768 → signed_of n ≡ pos n
@@ -30,6 +32,20 @@ pub bits_above : (z : ℤ) → pos 0 ≤ℤ z → bits_of z ≡ plus z - minus z
 unfolding bits_of
 bits_above (pos n) h = omega arith
 bits_above (negsuc n) h = absurd (omega ints)
+
+-- ---- the library's bits are these
+pub bits_are : (z : ℤ) → of_z w16 z ≡ bits_of z
+unfolding bits_of
+bits_are (pos n) = refl
+bits_are (negsuc n) = refl
+
+pub signed_are : (n : ℕ) → n < 65536 → to_z w16 n ≡ signed_of n
+signed_are n h = by-test (ltb n 32768)
+    (λ e. to_z_pos w16 (ltb-true n 32768 e) ∙ sym (signed_low n (ltb-true n 32768 e)))
+    (λ e. let l : 32768 ≤ n = ltb-false n 32768 e in
+    let k : n ≡ 65536 - suc (65535 - n) = omega arith in
+    let d : negsuc (65535 - n) ≡ pos n -ℤ pos 65536 = parts-≡ (omega (arith, diff-parts (pos n) (pos 65536))) in
+    ap (to_z w16) k ∙ to_z-neg w16 (65535 - n) (omega arith) ∙ d ∙ sym (signed_high n l))
 
 -- ---- the round trip, from the number
 signed-bits : (z : ℤ) → SFits w16 z → signed_of (bits_of z) ≡ z

@@ -3,58 +3,25 @@ use mathlib.Core.Path.{◌≡◌, refl, sym, ap, ◌∙◌}
 use mathlib.Core.Bool.{Bool, true, false, not, true≢false}
 use mathlib.Core.List.{List, [], ◌∷◌, ◌++◌}
 use mathlib.Core.Option.{none, some}
-use Prim.Native.Nat.{ℕ, zero, suc, ◌≤◌, ◌<◌}
+use Prim.Native.Nat.{ℕ, suc, ◌≤◌, ◌<◌}
 use native.Mathlib.Nat.{mul-le-mul_left}
 use native.Mathlib.Omega.{arith}
 use lib.IntN.{ℤ, pos, nat_abs, ◌+ℤ◌, ◌-ℤ◌, ◌*ℤ◌, +ℤ_assoc, +ℤ_comm}
 use lib.ListN.{length}
 use lib.Signed.{◌≤ℤ◌}
+use borrow.Author.Rules.{rules}
+use Rattle.std.proofs.Common.{int_eq}
 use Rattle.value.specs.Bag.{All, Same}
+use Rattle.value.specs.Machine.{value_of}
+use Rattle.value.specs.declared.datum.Datum.{Datum}
 use Rattle.value.specs.Integer.{low16, high16, min_z, max_z, least_end, greatest_end, round_z}
-use Rattle.value.specs.Value.{Operation, operation_at, apply_z, Comparison, comparison_at, Connective, connective_at, Aggregate, aggregate_at, sure, negate, holds, Value, apply, round, value_test, Tally, start, combine, weight, gather, more, finish, tally, total, TallyBetween, TallyHeld, Between, between, Held, narrowed, narrowed_tally, stored, shown, Cell, Column, InColumn, in_column, size, digit, digit_of, Truth, connect}
+use Rattle.value.specs.Value.{Operation, apply_z, Connective, Aggregate, sure, negate, holds, Value, apply, round, same_value, value_test, Tally, start, combine, weight, gather, more, finish, tally, total, TallyBetween, TallyHeld, Between, between, Held, narrowed, narrowed_tally, stored, shown, Cell, Column, InColumn, in_column, size, digit, digit_of, Truth, connect}
 use Rattle.value.proofs.Decides.{Decides, and-dec, by-dec}
 use Rattle.value.proofs.Linear.{‵, ◌⊕◌, ◌⊗◌, ≤-by, ≤-to, ≤-parts, sum-parts, diff-parts, magnitude-parts, ints}
 use Rattle.value.proofs.Order.{≤_trans, ≤-self, ≤-dec, min-below, max-above, below-min, above-max, min_comm, max_comm, min_assoc, max_assoc, In, sum-hull, difference-hull, product-hull, multiple-low, multiple-high}
 use Rattle.value.proofs.Fits.{narrow32-held, narrow16-held}
 use Rattle.value.proofs.Rounding.{round_mono}
 use Rattle.value.proofs.Bags.{Commutes, fold-snoc, fold-bag}
-
--- ---- a kind's number past the last is the last kind
-pub operation-else : (n : ℕ) → (n ≡ 0 → ⊥) → (n ≡ 1 → ⊥) → operation_at n ≡ Operation.product
-operation-else zero h k = absurd (h refl)
-operation-else (suc zero) h k = absurd (k refl)
-operation-else (suc (suc n)) h k = refl
-
-pub comparison-else : (n : ℕ) → (n ≡ 0 → ⊥) → (n ≡ 1 → ⊥) → comparison_at n ≡ Comparison.less_equal
-comparison-else zero h k = absurd (h refl)
-comparison-else (suc zero) h k = absurd (k refl)
-comparison-else (suc (suc n)) h k = refl
-
-pub connective-else : (n : ℕ) → (n ≡ 0 → ⊥) → connective_at n ≡ Connective.disjunction
-connective-else zero h = absurd (h refl)
-connective-else (suc n) h = refl
-
-pub aggregate-else : (n : ℕ) → (n ≡ 0 → ⊥) → (n ≡ 1 → ⊥) → (n ≡ 2 → ⊥) → aggregate_at n ≡ Aggregate.maximum
-aggregate-else zero h k l = absurd (h refl)
-aggregate-else (suc zero) h k l = absurd (k refl)
-aggregate-else (suc (suc zero)) h k l = absurd (l refl)
-aggregate-else (suc (suc (suc n))) h k l = refl
-
--- only count starts from a number
-pub start-else : (n : ℕ) → (n ≡ 0 → ⊥) → start (aggregate_at n) ≡ none
-unfolding start
-start-else zero h = absurd (h refl)
-start-else (suc zero) h = refl
-start-else (suc (suc zero)) h = refl
-start-else (suc (suc (suc n))) h = refl
-
--- and only count does not look at the value
-pub weight-else : (n : ℕ) (z : ℤ) → (n ≡ 0 → ⊥) → weight (aggregate_at n) (Value.number z) ≡ z
-unfolding weight
-weight-else zero z h = absurd (h refl)
-weight-else (suc zero) z h = refl
-weight-else (suc (suc zero)) z h = refl
-weight-else (suc (suc (suc n))) z h = refl
 
 -- ---- truths
 pub holds-sure : (b : Bool) → holds (sure b) ≡ b
@@ -77,6 +44,11 @@ pub connect-true : (t u : Truth) → holds t ≡ true → connect Connective.dis
 unfolding holds connect
 connect-true Truth.True u h = refl
 connect-true Truth.False u h = absurd (true≢false (sym h))
+
+-- ---- the code's == of values is the test that bags go by
+pub datum_eq : (a b : Datum) → int_eq a.n b.n ≡ value_test.same (value_of a) (value_of b)
+unfolding value_of same_value
+datum_eq a b = search rules
 
 -- ---- bounds
 pub between-wider : {l h l' h' : ℤ} {v : Value} → l' ≤ℤ l → h ≤ℤ h' → Between l h v → Between l' h' v

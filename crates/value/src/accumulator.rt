@@ -1,48 +1,54 @@
-// A running aggregate by value.
+// A running aggregate by value, with the kind that it is of.
 ghost use Rattle.std.specs.Prelude.{◌≡◌};
-ghost use Rattle.value.specs.Value.{aggregate_at, start as start_t, more as more_t, finish as finish_t, narrowed_tally};
-ghost use Rattle.value.specs.Machine.{value_of, tally_of};
+ghost use Rattle.value.specs.Value.{start as start_t, more as more_t, finish as finish_t, narrowed_tally};
+ghost use Rattle.value.specs.Machine.{value_of, tally_of, kind_of, aggregate_of};
 
 use super::datum::Datum;
 use super::integer;
+use super::operator::Aggregate;
 
+// What the values so far come to, if there are any.
 #[derive(Clone, Copy)]
-pub enum Accumulator {
-    Nothing,
-    Total(i32),
+pub struct Accumulator {
+    kind: Aggregate,
+    total: Option<i32>,
 }
 
 impl Accumulator {
-    // Kind 0 is count, 1 sum, 2 minimum, any other maximum.
     // Refused: count from 1; sum from 0.
-    pub fn start(kind: u8) -> Accumulator
-        ensures { tally_of result ≡ start_t (aggregate_at kind) }
+    #[tactic(auto, unfolding(crate::specs::Machine::tally_of, crate::specs::Machine::kind_of, crate::specs::Value::start))]
+    pub fn start(kind: Aggregate) -> Accumulator
+        ensures { (tally_of result ≡ start_t (aggregate_of kind)) × (kind_of result ≡ aggregate_of kind) }
     {
-        match kind {
-            0 => Accumulator::Total(0),
-            _ => Accumulator::Nothing,
-        }
+        let total = match kind {
+            Aggregate::Count => Some(0),
+            _ => None,
+        };
+        Accumulator { kind, total }
     }
 
     // One value more; what no longer fits 32 bits becomes 0.
     // Refused: the first value lost; the total twice.
-    pub fn more(self, kind: u8, value: Datum) -> Accumulator
-        ensures { tally_of result ≡ narrowed_tally (more_t (aggregate_at kind) (value_of value) (tally_of self)) }
+    pub fn more(self, value: Datum) -> Accumulator
+        ensures { (tally_of result ≡ narrowed_tally (more_t (kind_of self) (value_of value) (tally_of self))) × (kind_of result ≡ kind_of self) }
     {
+        let kind = self.kind;
         let n = value.weight(kind);
-        match self {
-            Accumulator::Nothing => Accumulator::Total(n),
-            Accumulator::Total(t) => Accumulator::Total(integer::combined(kind, t, n)),
+        let total = match self.total {
+            None => n,
+            Some(t) => integer::combined(kind, t, n),
+        };
+        Accumulator {
+            kind,
+            total: Some(total),
         }
     }
 
     // Refused: 1 of nothing; the total lost.
+    #[tactic(auto, unfolding(crate::specs::Machine::tally_of, crate::specs::Value::finish))]
     pub fn finish(self) -> Datum
         ensures { value_of result ≡ finish_t (tally_of self) }
     {
-        match self {
-            Accumulator::Nothing => Datum::from_work(0),
-            Accumulator::Total(t) => Datum::from_work(t),
-        }
+        Datum::from_work(self.total.unwrap_or(0))
     }
 }

@@ -1,24 +1,30 @@
-// What a condition answers.
+// What a condition answers. No `bool`: the paper has three truths, and the third would stand here beside these two.
 ghost use Rattle.std.specs.Prelude.{◌≡◌, ◌≤◌};
 ghost use Rattle.value.specs.Bag.{tick};
-ghost use Rattle.value.specs.Value.{connective_at, sure as sure_t, negate, connect, holds as holds_t};
-ghost use Rattle.value.specs.Machine.{truth_of};
+ghost use Rattle.value.specs.Value.{sure as sure_t, negate, connect, holds as holds_t};
+ghost use Rattle.value.specs.Machine.{truth_of, connective_of};
 
-#[derive(Clone, Copy)]
+use super::operator::Connective;
+
+#[derive(Clone, Copy, PartialEq, Eq)]
 pub enum Boolean {
     True,
     False,
 }
 
-impl Boolean {
-    // Refused: true for false; false for true.
-    pub fn sure(b: bool) -> Boolean
-        ensures { truth_of result ≡ sure_t b }
-    {
+// Refused: true for false; false for true.
+impl From<bool> for Boolean {
+    ghost from_gives = { λ b truth. truth_of truth ≡ sure_t b };
+
+    #[tactic(auto, unfolding(crate::specs::Machine::truth_of, crate::specs::Value::sure))]
+    fn from(b: bool) -> Boolean {
         if b { Boolean::True } else { Boolean::False }
     }
+}
 
+impl Boolean {
     // Refused: true stays; false stays.
+    #[tactic(auto, unfolding(crate::specs::Machine::truth_of, crate::specs::Value::negate))]
     pub fn negated(self) -> Boolean
         ensures { truth_of result ≡ negate (truth_of self) }
     {
@@ -28,39 +34,36 @@ impl Boolean {
         }
     }
 
-    // Kind 0 is and, any other or.
     // Refused: and for or; and that answers self.
-    pub fn connected(self, kind: u8, other: Boolean) -> Boolean
-        ensures { truth_of result ≡ connect (connective_at kind) (truth_of self) (truth_of other) }
+    #[tactic(auto, unfolding(crate::specs::Machine::truth_of, crate::specs::Value::connect))]
+    pub fn connected(self, connective: Connective, other: Boolean) -> Boolean
+        ensures { truth_of result ≡ connect (connective_of connective) (truth_of self) (truth_of other) }
     {
-        if kind == 0 {
-            match self {
+        match connective {
+            Connective::And => match self {
                 Boolean::True => other,
                 Boolean::False => Boolean::False,
-            }
-        } else {
-            match self {
+            },
+            Connective::Or => match self {
                 Boolean::True => Boolean::True,
                 Boolean::False => other,
-            }
+            },
         }
     }
 
     // Refused: false holds; true does not.
+    #[tactic(auto, unfolding(crate::specs::Machine::truth_of, crate::specs::Value::holds))]
     pub fn holds(self) -> bool
         ensures { result ≡ holds_t (truth_of self) }
     {
-        match self {
-            Boolean::True => true,
-            Boolean::False => false,
-        }
+        matches!(self, Boolean::True)
     }
 }
 
-// 1 for true, 0 for false: what a test adds to a count.
+// 1 for true, 0 for false: what a test adds to a count. A function of its own, since its contract is over `tick`, by which bags are counted.
 // Refused: 1 for false; 0 for true.
 pub fn one_if(b: bool) -> u8
     ensures { (result ≡ tick b 0) × (result ≤ 1) }
 {
-    if b { 1 } else { 0 }
+    u8::from(b)
 }

@@ -15,14 +15,16 @@ pub struct Domain {
 impl Domain {
     // How many digits the column has; a blank beside 65,536 values would be the last of 65,537.
     // Refused: one digit only; one digit too few.
+    #[tactic(auto, unfolding(crate::specs::Machine::column_of, crate::specs::Value::size))]
     pub fn size(self) -> u32
         ensures { (result ≡ size_c (column_of self)) × (result ≤ 65537) }
     {
-        integer::distance(self.lo, self.hi) + 1
+        u32::from(self.hi.abs_diff(self.lo)) + 1
     }
 
     // The value of digit n where 32 bits hold it, else 0.
     // Refused: from hi; digit 0 always.
+    #[tactic(auto, unfolding(crate::specs::Machine::column_of, crate::specs::Value::digit, crate::specs::Value::narrowed))]
     pub fn digit(self, n: u32) -> Datum
         ensures { value_of result ≡ narrowed (digit_c (column_of self) n) }
     {

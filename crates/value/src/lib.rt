@@ -6,3 +6,4 @@ pub mod boolean;
 pub mod datum;
 pub mod domain;
 pub mod integer;
+pub mod operator;

@@ -27,9 +27,6 @@ row_step row row' work r c i v h e q p =
     let n : c + 1 ≡ suc c = omega arith in
     ap (row_of row') n ∙ e (suc c) ∙ with-next row c v h ∙ ap₂ (λ (a : Row) (x : Value). a ++ (x ∷ [])) p q ∙ sym (ap (λ k. listed (cell_in work r i) k) n)
 
-pub row-whole : (row : Values) (work : List ℤ) (r w c i : ℕ) → c ≤ w → w ≤ c → row_of row c ≡ row_in work r c i → row_of row w ≡ row_in work r w i
-row-whole row work r w c i h k p = let e : w ≡ c = omega arith in rw e p
-
 -- ---- several rows
 
 pub apart-same : (r : ℕ) (work : List ℤ) → Apart r work work

@@ -1,16 +1,18 @@
 -- Rows compared, counted and kept. Assumes nothing.
 use mathlib.Core.Path.{◌≡◌, refl, sym, ap, ap₂, ◌∙◌}
-use mathlib.Core.Bool.{Bool, true, false, ◌&&◌, cond, and-false}
-use mathlib.Core.List.{List, [], ◌∷◌, ◌++◌, append-nil}
-use Prim.Native.Nat.{ℕ, zero, suc, ◌+◌, ◌≤◌, ◌<◌}
+use mathlib.Core.Bool.{Bool, true, false, ◌&&◌, cond}
+use mathlib.Core.List.{List, [], ◌∷◌, ◌++◌, map, append-nil}
+use Prim.Native.Nat.{ℕ, zero, suc, ◌+◌, ◌≤◌}
 use native.Mathlib.Numerals.{add-one}
 use native.Mathlib.Omega.{arith}
-use lib.Dec.{ltb, eqb}
+use lib.Dec.{ltb}
 use lib.IntN.{ℤ}
 use lib.ListN.{length}
-use borrow.Author.Tests.{eqb-true, eqb-false, lt-ltb, le-ltb}
+use Rattle.std.specs.List.{list_all, range_with_len}
+use Rattle.std.proofs.lemmas.List.Folds.{list_all-append, list_all-map}
+use Rattle.std.proofs.lemmas.List.FromFn.{map-range_with_len_more}
 use Rattle.value.specs.Bag.{tick, count}
-use Rattle.value.specs.Value.{Value, value_test}
+use Rattle.value.specs.Value.{value_test}
 use Rattle.value.proofs.Decides.{by-test}
 use Rattle.meaning.specs.Lists.{each, common}
 use Rattle.meaning.specs.Syntax.{Row}
@@ -22,7 +24,7 @@ use Rattle.store.specs.Rows.{listed, row_in, rows_in, put_row, row_of}
 use Rattle.store.specs.declared.Row.{Row as Values}
 use Rattle.meaning.proofs.Listed.{length-listed}
 use Rattle.store.proofs.RowLaws.{rows_none, rows_more, row-length, put-read, put-grows}
-use Rattle.views.specs.Copies.{Fits, KeptRows, kept_next, kept_rows, Intersection}
+use Rattle.views.specs.Copies.{Fits, KeptRows, kept_next, kept_rows, Appended, Intersection}
 use Rattle.views.proofs.Copying.{apart-same, apart_more, apart-put, apart-rows, row_kept}
 
 -- ---- rows that are the same
@@ -45,29 +47,29 @@ module _ (work : List ℤ) (a i b j : ℕ) where
   abbrev alike : ℕ → Bool
   alike w = row_test.same (row_in work a w i) (row_in work b w j)
 
-  pub alike-none : alike 0 ≡ true
-  unfolding row_in listed
-  alike-none = refl
-
   alike_next : (c : ℕ) → alike (suc c) ≡ (alike c && value_test.same (cell_in work a i c) (cell_in work b j c))
   unfolding row_in
   alike_next c = each_snoc value_test.same (cell_in work a i) (cell_in work b j) c
 
-  pub alike-more : (c : ℕ) (x y : Value) → alike c ≡ true → x ≡ cell_in work a i c → y ≡ cell_in work b j c → value_test.same x y ≡ true → alike (c + 1) ≡ true
-  alike-more c x y p e f t =
-      let n : c + 1 ≡ suc c = omega arith in
-      ap alike n ∙ alike_next c ∙ rw (p, ← e, ← f, t)
+  -- their values at column c are the same
+  abbrev pub alike_at : ℕ → Bool
+  alike_at c = value_test.same (cell_in work a i c) (cell_in work b j c)
 
-  pub alike-stops : (w c : ℕ) (x y : Value) → c < w → x ≡ cell_in work a i c → y ≡ cell_in work b j c → value_test.same x y ≡ false → false ≡ alike w
-  alike-stops zero c x y h e f t = absurd (omega arith)
-  alike-stops (suc w) c x y h e f t = by-test (eqb c w)
-      (λ q. let z : c ≡ w = eqb-true c w q in
-      sym (alike_next w ∙ ap (λ k. alike w && value_test.same (cell_in work a i k) (cell_in work b j k)) (sym z) ∙ ap₂ (λ u v. alike w && value_test.same u v) (sym e) (sym f)
-      ∙ ap (λ k. alike w && k) t ∙ and-false (alike w)))
-      (λ q. let z = alike-stops w c x y (omega (arith, eqb-false c w q)) e f t in sym (alike_next w ∙ rw (← z)))
-
-  pub alike-whole : (w c : ℕ) → c ≤ w → w ≤ c → alike c ≡ true → true ≡ alike w
-  alike-whole w c h k p = let e : w ≡ c = omega arith in rw e (sym p)
+  -- the rows are, where their values at each column are
+  pub alike-all : (w : ℕ) → list_all alike_at (range_with_len 0 w) ≡ alike w
+  unfolding row_in listed
+  alike-all zero = refl
+  alike-all (suc w) =
+      let tested : (n : ℕ) → list_all alike_at (range_with_len 0 n) ≡ list_all (λ t. t) (map alike_at (range_with_len 0 n)) =
+      λ n. sym (list_all-map (λ t. t) alike_at (range_with_len 0 n)) in
+      let more : map alike_at (range_with_len 0 (suc w)) ≡ map alike_at (range_with_len 0 w) ++ (alike_at w ∷ []) =
+      rw (add-one w) at (map-range_with_len_more alike_at 0 w w (omega arith)) in
+      tested (suc w) ∙ ap (list_all (λ t. t)) more ∙ list_all-append (λ t. t) (map alike_at (range_with_len 0 w)) (alike_at w ∷ [])
+      ∙ ap₂ (λ s t. s && t) (sym (tested w) ∙ alike-all w) (and-true (alike_at w)) ∙ sym (alike_next w)
+    where
+      and-true : (t : Bool) → (t && true) ≡ t
+      and-true true = refl
+      and-true false = refl
 
 -- ---- how often
 
@@ -84,6 +86,19 @@ count-more work b w n k one r e f =
     ap₂ (λ x y. x + y) e f ∙ sym (ap (λ l. count row_test r l) (ap (rows_in work b w) s ∙ rows_more work b w n) ∙ count-append (row_test.same r) (rows_in work b w n) (row_in work b w n ∷ []))
 
 -- ---- kept rows
+
+pub appended : {keep : Bool} {work work' : List ℤ} {source i to at w : ℕ} (row : Values) → keep ≡ true → (w ≤ column_limit → row_of row w ≡ row_in work source w i)
+    → work' ≡ put_row work to at w (row_of row w) → Appended keep work source i to at w (at + 1) work'
+appended {keep} {work} {source = source} {i} {to} {at} {w} row k r p = record {
+  yes = λ _. (p ∙ put-read work to at w (row_of row w) (row_in work source w i) r, refl);
+  no = λ n. let both : true ≡ false = sym k ∙ n in let z : ◌≡◌ {A = ℕ} 0 1 = cc in absurd (omega arith);
+}
+
+pub left_out : {keep : Bool} {work : List ℤ} {source i to at w : ℕ} → keep ≡ false → Appended keep work source i to at w at work
+left_out {keep} k = record {
+  yes = λ n. let both : false ≡ true = sym k ∙ n in let z : ◌≡◌ {A = ℕ} 0 1 = cc in absurd (omega arith);
+  no = λ _. (refl, refl);
+}
 
 pub shared-none : (work : List ℤ) (left right n to w : ℕ) → Intersection work left 0 right n to w 0 work
 unfolding kept_rows
@@ -116,39 +131,37 @@ module _ {work now : List ℤ} {left i right n to w kept before there : ℕ} (s 
   unfolding kept_rows
   here-next k e = rw (add-one i) (sym e ∙ ap (kept_next left right n to w i) s.here)
 
-  -- it is kept
-  pub shared-kept : (row : Values) → before < there → (w ≤ column_limit → row_of row w ≡ row_in now left w i) → {after : List ℤ} → after ≡ put_row now to kept w (row_of row w)
-      → Intersection work left (i + 1) right n to w (kept + 1) after
-  shared-kept row less read {after} p =
-      let t : ltb before there ≡ true = lt-ltb before there less in
-      let there-row = row_in now left w i in
-      let put : after ≡ put_row now to kept w there-row = p ∙ put-read now to kept w (row_of row w) there-row read in
-      record {
-        here = ap (λ l. told l (kept + 1)) put ∙ here-next (told (put_row now to kept w there-row) (kept + 1)) (rw (test true t));
-        apart = rw put (apart_more s.apart (apart-put now to kept w there-row));
-        few = omega (arith, s.few);
-        rows = λ p q f.
-            let k : kept + 1 ≡ suc kept = omega arith in
-            let fewer : Fits to i w work = record { relation = f.relation; rows = omega (arith, f.rows); columns = f.columns; whole = f.whole } in
-            ap₂ (λ l j. rows_in l to w j) put k
-            ∙ put-grows now to kept w there-row f.relation (omega (arith, f.rows, s.few)) f.columns (omega (arith, f.whole, s.apart.size)) (row-length now left w i)
-            ∙ ap₂ (λ (u : List Row) (v : Row). u ++ (v ∷ [])) (s.rows p q fewer) (row_kept work now left to w i s.apart p)
-            ∙ sym (step-common p q ∙ ap (λ c. common row_test (rows_in work left w i) (rows_in work right w n) ++ cond c (row_in work left w i ∷ []) []) t);
-      }
+  pub shared-more : {after : List ℤ} {next : ℕ} → Appended (ltb before there) now left i to kept w next after → Intersection work left (i + 1) right n to w next after
+  shared-more {after} {next} a = by-test (ltb before there) taken passed
+    where
+      less : Fits to (i + 1) w work → Fits to i w work
+      less f = record { relation = f.relation; rows = omega (arith, f.rows); columns = f.columns; whole = f.whole }
 
-  -- it is passed over
-  pub shared-passed : there ≤ before → Intersection work left (i + 1) right n to w kept now
-  shared-passed more =
-      let t : ltb before there ≡ false = le-ltb before there more in
-      record {
-        here = here-next (told now kept) (rw (test false t));
-        apart = s.apart;
-        few = omega (arith, s.few);
-        rows = λ p q f.
-            s.rows p q (record { relation = f.relation; rows = omega (arith, f.rows); columns = f.columns; whole = f.whole })
-            ∙ sym (step-common p q ∙ ap (λ c. common row_test (rows_in work left w i) (rows_in work right w n) ++ cond c (row_in work left w i ∷ []) []) t
-            ∙ append-nil (common row_test (rows_in work left w i) (rows_in work right w n)));
-      }
+      taken : ltb before there ≡ true → Intersection work left (i + 1) right n to w next after
+      taken t =
+          let (put, count-is) = a.yes t in
+          let row = row_in now left w i in
+          record {
+            here = ap₂ told put count-is ∙ here-next (told (put_row now to kept w row) (kept + 1)) (rw (test true t));
+            apart = rw put (apart_more s.apart (apart-put now to kept w row));
+            few = omega (arith, s.few, count-is);
+            rows = λ p q f.
+                let k : next ≡ suc kept = omega (arith, count-is) in
+                ap₂ (λ l j. rows_in l to w j) put k
+                ∙ put-grows now to kept w row f.relation (omega (arith, f.rows, s.few)) f.columns (omega (arith, f.whole, s.apart.size)) (row-length now left w i)
+                ∙ ap₂ (λ (u : List Row) (v : Row). u ++ (v ∷ [])) (s.rows p q (less f)) (row_kept work now left to w i s.apart p)
+                ∙ sym (step-common p q ∙ ap (λ c. common row_test (rows_in work left w i) (rows_in work right w n) ++ cond c (row_in work left w i ∷ []) []) t);
+          }
 
-pub shared-all : {work work' : List ℤ} {left i m right n to w kept : ℕ} → i ≡ m → Intersection work left i right n to w kept work' → Intersection work left m right n to w kept work'
-shared-all e s = rw (sym e) s
+      passed : ltb before there ≡ false → Intersection work left (i + 1) right n to w next after
+      passed t =
+          let (same, count-is) = a.no t in
+          record {
+            here = ap₂ told same count-is ∙ here-next (told now kept) (rw (test false t));
+            apart = rw same s.apart;
+            few = omega (arith, s.few, count-is);
+            rows = λ p q f.
+                ap₂ (λ l j. rows_in l to w j) same count-is ∙ s.rows p q (less f)
+                ∙ sym (step-common p q ∙ ap (λ c. common row_test (rows_in work left w i) (rows_in work right w n) ++ cond c (row_in work left w i ∷ []) []) t
+                ∙ append-nil (common row_test (rows_in work left w i) (rows_in work right w n)));
+          }

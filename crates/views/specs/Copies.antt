@@ -1,6 +1,6 @@
 -- The rows of one relation written behind rows of another, a union and an intersection: what the work area holds afterwards, of any input, and
 -- which rows these are where the target has room and is not read. Assumes nothing: these are definitions.
-use Rattle.std.specs.Prelude.{◌≡◌, cond, List, ◌++◌, ℕ, zero, suc, ◌+◌, ◌≤◌, ◌<◌, ltb, ℤ, length}
+use Rattle.std.specs.Prelude.{◌≡◌, Bool, true, false, cond, List, ◌++◌, ℕ, zero, suc, ◌+◌, ◌≤◌, ◌<◌, ltb, ℤ, length}
 use Rattle.value.specs.Bag.{count}
 use Rattle.meaning.specs.Lists.{common}
 use Rattle.meaning.specs.Evaluation.{row_test}
@@ -36,6 +36,11 @@ pub record Union (work : List ℤ) (left m right n to w : ℕ) (work' : List ℤ
   pub rows : (left ≡ to → ⊥) → (right ≡ to → ⊥) → Fits to (m + n) w work → rows_in work' to w (m + n) ≡ rows_in work left w m ++ rows_in work right w n
 
 -- ---- intersection
+
+-- what appending row i of a relation, or not, leaves
+pub record Appended (keep : Bool) (work : List ℤ) (source i to at w r : ℕ) (work' : List ℤ) : Type 0 where
+  pub yes : keep ≡ true → (work' ≡ put_row work to at w (row_in work source w i)) × (r ≡ at + 1)
+  pub no : keep ≡ false → (work' ≡ work) × (r ≡ at)
 
 -- the work area, and how many rows are kept
 pub record KeptRows : Type 0 where

@@ -41,14 +41,11 @@ fn row_at(work: &[i32], relation: u8, i: u8, width: u8) -> Row
 fn same_rows(work: &[i32], a: u8, i: u8, b: u8, j: u8, width: u8) -> bool
     ensures { result ≡ row_test.same (row_in work.now a width i) (row_in work.now b width j) }
 {
-    for c in 0..width {
+    (0..width).all(|c| {
         let x = store::cell(work, a as usize, i as usize, c as usize);
         let y = store::cell(work, b as usize, j as usize, c as usize);
-        if !x.same(y) {
-            return false;
-        }
-    }
-    true
+        x.same(y)
+    })
 }
 
 impl FirstRows {
@@ -63,7 +60,7 @@ impl FirstRows {
         }
     }
 
-    // How often row i of a relation is among them.
+    // How often row i of a relation is among them. A loop: by `filter` and `count` the candidates of `sets` take 2 in 100 instructions more.
     fn count_of(self, work: &[i32], relation: u8, i: u8, width: u8) -> u8
         ensures { result ≡ count row_test (row_in work.now relation width i) (rows_in work.now self.relation width self.count) }
     {

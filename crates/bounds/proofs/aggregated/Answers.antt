@@ -3,12 +3,10 @@ use Rattle.bounds.specs.Walk.{aggregated_r}
 use Rattle.range.proofs.Bits32.{told-ranged}
 use Rattle.bounds.proofs.aggregated.Goals as goal
 
-pub returns-in-Within : goal.returns-in-Within
+pub returns-in_err-range : goal.returns-in_err-range
 unfolding aggregated_r
-returns-in-Within c =
-    let e = told-ranged {a = c.aggregated.result} _ c.aggregated.ensures in
-    rw (c.in-Within.is, c.sizing.ensures, e)
+returns-in_err-range c = rw (c.from_residual.ensures, c.in_err-range.was)
 
-pub returns-in-Beyond : goal.returns-in-Beyond
+pub returns : goal.returns
 unfolding aggregated_r
-returns-in-Beyond c = rw c.in-Beyond.is c.sizing-in-Beyond.ensures
+returns c = rw c.in_ok-range.was (told-ranged _ c.aggregated.ensures)

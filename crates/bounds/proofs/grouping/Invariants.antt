@@ -2,8 +2,5 @@
 use Rattle.bounds.proofs.Columns.{Seeking}
 use Rattle.bounds.proofs.grouping.Given as goal
 
-abbrev pub invariant-loop-left : goal.invariant-loop-left
-invariant-loop-left l = Seeking l.frame l.item l.column l.places l.count l.at l.left
-
-abbrev pub decreases-loop-left : goal.decreases-loop-left
-decreases-loop-left l = l.left
+abbrev pub invariant-loop-k : goal.invariant-loop-k
+invariant-loop-k l = Seeking l.frame l.item l.column l.places l.count l.k

@@ -3,12 +3,10 @@ use Rattle.bounds.specs.Walk.{rounded_r}
 use Rattle.range.proofs.Bits32.{told-ranged}
 use Rattle.bounds.proofs.rounded.Goals as goal
 
-pub returns-in-Within : goal.returns-in-Within
+pub returns-in_err-range : goal.returns-in_err-range
 unfolding rounded_r
-returns-in-Within c =
-    let e = told-ranged {a = c.rounded.result} _ c.rounded.ensures in
-    rw (c.in-Within.is, c.sizing.ensures, e)
+returns-in_err-range c = rw (c.from_residual.ensures, c.in_err-range.was)
 
-pub returns-in-Beyond : goal.returns-in-Beyond
+pub returns : goal.returns
 unfolding rounded_r
-returns-in-Beyond c = rw c.in-Beyond.is
+returns c = rw c.in_ok-range.was (told-ranged _ c.rounded.ensures)

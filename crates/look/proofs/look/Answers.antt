@@ -3,4 +3,4 @@ use Rattle.look.proofs.LookLaws.{looks-planned}
 use Rattle.look.proofs.look.Goals as goal
 
 pub returns : goal.returns
-returns c = looks-planned _ c.look_at.ensures c.check-p.ensures
+returns c = looks-planned _ c.look_at.ensures c.check.ensures

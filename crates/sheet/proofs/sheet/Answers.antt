@@ -1,15 +1,9 @@
 -- `sheet::sheet` meets its contract. Assumes nothing.
-use borrow.Author.Rules.{rules}
 use Rattle.sheet.proofs.PlanSheets.{no-sheet, a-sheet}
 use Rattle.sheet.proofs.sheet.Goals as goal
 
-pub returns-then-p-eq0 : goal.returns-then-p-eq0
-returns-then-p-eq0 c =
-    no-sheet c.args.text.now c.check-p.result c.check-p.ensures
-    (search rules)
+pub returns-in-Ok : goal.returns-in-Ok
+returns-in-Ok c = no-sheet c.args.text.now _ c.in-Ok.ensures
 
-pub returns : goal.returns
-returns c =
-    a-sheet c.args.text.now
-    c.check-p.result c.check-p.ensures
-    (search rules) c.both_sentences.ensures
+pub returns-in-Err : goal.returns-in-Err
+returns-in-Err c = a-sheet c.args.text.now _ c.in-Err.ensures c.number.ensures c.both_sentences.ensures

@@ -11,17 +11,13 @@ returns-then-work-lt-AREA c = short-trial (file_of c.args.text.now) _ _ (inl (om
 pub returns-then-counts-lt-RELATIONS : goal.returns-then-counts-lt-RELATIONS
 returns-then-counts-lt-RELATIONS c = short-trial (file_of c.args.text.now) _ _ (inr (omega arith))
 
-pub returns-then-p-ne0 : goal.returns-then-p-ne0
-returns-then-p-ne0 c =
-    refused-trial (file_of c.args.text.now) c.check-p.result (omega arith) (omega arith)
-    c.check-p.ensures c.if-p-ne0.true
+pub returns-in-Err : goal.returns-in-Err
+returns-in-Err c = refused-trial (file_of c.args.text.now) _ (omega arith) (omega arith) c.in-Err.ensures c.packed.ensures
 
 pub returns-then-every_relation : goal.returns-then-every_relation
 returns-then-every_relation c =
-    accepted-trial (file_of c.args.text.now) c.check-p.result (omega arith) (omega arith)
-    c.check-p.ensures c.if-p-ne0.false c.every_relation.ensures (rw c.if-every_relation.true)
+    accepted-trial (file_of c.args.text.now) _ (omega arith) (omega arith) c.in-Ok.ensures c.every_relation.ensures (rw c.if-every_relation.true)
 
 pub returns-else-every_relation : goal.returns-else-every_relation
 returns-else-every_relation c =
-    accepted-trial (file_of c.args.text.now) c.check-p.result (omega arith) (omega arith)
-    c.check-p.ensures c.if-p-ne0.false c.every_relation.ensures (rw c.if-every_relation.false)
+    accepted-trial (file_of c.args.text.now) _ (omega arith) (omega arith) c.in-Ok.ensures c.every_relation.ensures (rw c.if-every_relation.false)

@@ -8,7 +8,7 @@ loop-v-init c = turned_none
 pub loop-v-preserved : goal.loop-v-preserved
 loop-v-preserved c =
     turned_more c.loop-v.invariant c.loop-v-test.true
-    c.frame_of-frame.ensures c.note_sign.ensures c.note_rows.ensures
+    c.frame-frame.ensures c.note_sign.ensures c.note_rows.ensures
 
 pub returns : goal.returns
 returns c = turned-all c.loop-v.invariant c.loop-v-test.false

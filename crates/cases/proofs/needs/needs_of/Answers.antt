@@ -9,7 +9,7 @@ loop-v-init c = rw c.of_goal-needs.ensures (reached-none _ _)
 pub loop-v-preserved : goal.loop-v-preserved
 loop-v-preserved c =
     reached-next c.loop-v.invariant c.loop-v-test.true (omega arith)
-    c.frame_of-frame.ensures c.need_rows-needs.ensures c.need_signs-needs.ensures
+    c.frame-frame.ensures c.need_rows-needs.ensures c.need_signs-needs.ensures
 
 pub returns : goal.returns
 returns c = needs-all c.loop-v-test.false c.loop-v.invariant

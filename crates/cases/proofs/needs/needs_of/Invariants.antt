@@ -1,8 +1,8 @@
 -- `cases::needs::needs_of` meets its contract. Assumes nothing.
-use Rattle.catalog.specs.FileIn.{source_from}
+use Rattle.catalog.specs.FileIn.{source_in}
 use Rattle.cases.specs.Needs.{goal_needs}
 use Rattle.cases.proofs.NeedLaws.{Reached}
 use Rattle.cases.proofs.needs.needs_of.Given as goal
 
 abbrev pub invariant-loop-v : goal.invariant-loop-v
-invariant-loop-v l = Reached (source_from l.bytes l.shape l.fn.o) (goal_needs l.fn.goal) l.v l.needs
+invariant-loop-v l = Reached (source_in l.source) (goal_needs l.fn.goal) l.v l.needs

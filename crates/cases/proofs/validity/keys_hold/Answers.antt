@@ -5,24 +5,14 @@ use Rattle.cases.proofs.RowTests.{all-below-none, all-below-next, all-below-whol
 use Rattle.cases.proofs.KeyLaws.{key-there}
 use Rattle.cases.proofs.validity.keys_hold.Goals as goal
 
-pub loop-t-init : goal.loop-t-init
-loop-t-init c = (omega arith, all-below-none _)
-
 pub returns-then-not-key_holds : goal.returns-then-not-key_holds
-returns-then-not-key_holds c = sym (all-below-stops _ _ _ c.loop-t-test.true
-    (key-there _ _ _ _ c.item_at-rows.ensures c.width_of-width.ensures c.mask_of-mask.ensures
-    c.key_holds.ensures ∙ c.if-not-key_holds.true))
+returns-then-not-key_holds c = sym (all-below-stops _ _ _ c.loop-t-test.true (key-there _ _ _ _ c.of.ensures c.key_holds.ensures ∙ c.if-not-key_holds.true))
 
-pub loop-t-smaller : goal.loop-t-smaller
-loop-t-smaller c = omega arith
+pub loop-t-init : goal.loop-t-init
+loop-t-init c = all-below-none _
 
 pub loop-t-preserved : goal.loop-t-preserved
-loop-t-preserved c = (
-  omega arith,
-  all-below-next _ _ c.loop-t.invariant.1
-      (key-there _ _ _ _ c.item_at-rows.ensures c.width_of-width.ensures c.mask_of-mask.ensures
-      c.key_holds.ensures ∙ c.if-not-key_holds.false),
-)
+loop-t-preserved c = all-below-next _ _ c.loop-t.invariant (key-there _ _ _ _ c.of.ensures c.key_holds.ensures ∙ c.if-not-key_holds.false)
 
 pub returns : goal.returns
-returns c = sym (all-below-whole _ _ _ (omega arith) c.loop-t.invariant.1)
+returns c = sym (all-below-whole _ _ _ (omega arith) c.loop-t.invariant)

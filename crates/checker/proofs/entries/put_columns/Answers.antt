@@ -7,17 +7,16 @@ use Rattle.catalog.proofs.ArrayLaws.{puts_none, puts-more, put-length}
 use Rattle.checker.proofs.entries.put_columns.Goals as goal
 
 pub loop-c-init : goal.loop-c-init
-loop-c-init c = (omega arith, refl, puts_none (column_in c.args.frame.now) c.args.ends.now c.args.r)
+loop-c-init c = (refl, puts_none (column_in c.args.frame.now) c.args.ends.now c.args.r)
 
 pub loop-c-preserved : goal.loop-c-preserved
 loop-c-preserved c = (
-  omega arith,
   ap length c.put_range.ensures ∙ put-length c.loop-c.ends c.args.r c.loop-c.c
-      c.column_in.result ∙ c.loop-c.invariant.1,
+      c.column_in.result ∙ c.loop-c.invariant.0,
   c.put_range.ensures ∙ puts-more (column_in c.args.frame.now) c.args.ends.now
       c.args.r c.loop-c.c c.loop-c.ends c.column_in.result
-      c.loop-c.invariant.2 c.column_in.ensures,
+      c.loop-c.invariant.1 c.column_in.ensures,
 )
 
 pub returns : goal.returns
-returns c = let e : c.loop-c.c ≡ c.args.width = omega arith in rw e at c.loop-c.invariant.2
+returns c = let e : c.loop-c.c ≡ c.args.width = omega arith in rw e at c.loop-c.invariant.1

@@ -7,7 +7,4 @@ use Rattle.catalog.specs.Arrays.{put_ranges}
 use Rattle.checker.proofs.entries.put_columns.Given as goal
 
 abbrev pub invariant-loop-c : goal.invariant-loop-c
-invariant-loop-c l = (l.c ≤ l.width) × (length l.ends ≡ length l.initial.ends) × (l.ends ≡ put_ranges (column_in l.frame) l.initial.ends l.r l.c)
-
-abbrev pub decreases-loop-c : goal.decreases-loop-c
-decreases-loop-c l = l.width - l.c
+invariant-loop-c l = (length l.ends ≡ length l.initial.ends) × (l.ends ≡ put_ranges (column_in l.frame) l.initial.ends l.r l.c)

@@ -6,7 +6,4 @@ use Rattle.checker.specs.Entries.{put_hulls}
 use Rattle.checker.proofs.entries.put_hulls.Given as goal
 
 abbrev pub invariant-loop-c : goal.invariant-loop-c
-invariant-loop-c l = (l.c ≤ l.width) × (length l.ends ≡ length l.initial.ends) × (l.ends ≡ put_hulls l.shape l.initial.ends l.left l.right l.r l.c)
-
-abbrev pub decreases-loop-c : goal.decreases-loop-c
-decreases-loop-c l = l.width - l.c
+invariant-loop-c l = (length l.ends ≡ length l.initial.ends) × (l.ends ≡ put_hulls l.shape l.initial.ends l.left l.right l.r l.c)

@@ -10,7 +10,6 @@ use Rattle.checker.proofs.entries.times_row.Goals as goal
 pub loop-c-init : goal.loop-c-init
 loop-c-init c = (
   omega arith,
-  omega arith,
   ap (λ k. capped_product c.args.n (columns_from c.args.shape.now c.args.ends.now c.args.t 0 k))
       (all_left c.width_of-width.result),
 )
@@ -18,16 +17,15 @@ loop-c-init c = (
 pub loop-c-preserved : goal.loop-c-preserved
 loop-c-preserved c = (
   omega (arith, c.capped-p.ensures),
-  omega arith,
   row-turn c.args.shape.now c.args.ends.now
       c.args.t c.loop-c.c c.width_of-width.result c.loop-c.p
       c.capped-p.result (omega arith) (c.capped-p.ensures ∙ ap (λ s. min (c.loop-c.p * s) too_many) (c.size.ensures.0 ∙ ap size c.domain_of.ensures))
-      ∙ c.loop-c.invariant.2,
+      ∙ c.loop-c.invariant.1,
 )
 
 pub returns : goal.returns
 returns c = (
   rw c.width_of-width.ensures at (sym (no-columns c.args.shape.now c.args.ends.now c.args.t
-      c.loop-c.c c.width_of-width.result c.loop-c.p (omega arith)) ∙ c.loop-c.invariant.2),
+      c.loop-c.c c.width_of-width.result c.loop-c.p (omega arith)) ∙ c.loop-c.invariant.1),
   c.loop-c.invariant.0,
 )

@@ -5,7 +5,4 @@ use Rattle.checker.specs.CandidateCount.{too_many, capped_product, columns_from}
 use Rattle.checker.proofs.entries.times_row.Given as goal
 
 abbrev pub invariant-loop-c : goal.invariant-loop-c
-invariant-loop-c l = (l.p ≤ too_many) × (l.c ≤ l.width) × (capped_product l.p (columns_from l.shape l.ends l.t l.c (l.width - l.c)) ≡ capped_product l.n (columns_from l.shape l.ends l.t 0 l.width))
-
-abbrev pub decreases-loop-c : goal.decreases-loop-c
-decreases-loop-c l = l.width - l.c
+invariant-loop-c l = (l.p ≤ too_many) × (capped_product l.p (columns_from l.shape l.ends l.t l.c (l.width - l.c)) ≡ capped_product l.n (columns_from l.shape l.ends l.t 0 l.width))

@@ -1,38 +1,15 @@
 -- `checker::fixed::columns_fault` meets its contract. Assumes nothing.
-use mathlib.Core.Path.{refl, sym, ◌∙◌}
-use native.Mathlib.Omega.{arith}
+use mathlib.Core.Path.{◌∙◌}
+use Rattle.std.proofs.Common.{rules}
+use Prim.Native.Nat.{◌+◌, ◌*◌}
+use Rattle.language.specs.Frames.{column_field}
+use Rattle.catalog.specs.Frames.{columns_start}
+use Rattle.checker.specs.Faults.{fault_at}
 use Rattle.checker.specs.FixedFaults.{columns_fault}
-use Rattle.checker.proofs.SizedLaws.{sized-column, times-stop, times-go, times-end}
+use Rattle.checker.proofs.SizedLaws.{sized-column}
+use Rattle.checker.proofs.FaultLaws.{among-times}
 use Rattle.checker.proofs.fixed.columns_fault.Goals as goal
-
-pub loop-left-init : goal.loop-left-init
-loop-left-init c = (refl, refl)
-
-pub column_fault-found-requires : goal.column_fault-found-requires
-column_fault-found-requires c = omega arith
-
-pub returns-then-found-ne0 : goal.returns-then-found-ne0
-unfolding columns_fault
-returns-then-found-ne0 c = sym (times-stop sized-column c.args.frame.now c.loop-left.at c.loop-left.left _ c.loop-left-test.true
-    c.column_fault-found.ensures c.if-found-ne0.true) ∙ c.loop-left.invariant.0
-
-pub overflow_add-at : goal.overflow_add-at
-overflow_add-at c = omega arith
-
-pub overflow_sub-left : goal.overflow_sub-left
-overflow_sub-left c = omega arith
-
-pub loop-left-smaller : goal.loop-left-smaller
-loop-left-smaller c = omega arith
-
-pub loop-left-preserved : goal.loop-left-preserved
-unfolding columns_fault
-loop-left-preserved c = (
-  sym (times-go sized-column c.args.frame.now c.loop-left.at c.loop-left.left _ c.loop-left-test.true
-      c.column_fault-found.ensures c.if-found-ne0.false) ∙ c.loop-left.invariant.0,
-  omega arith,
-)
 
 pub returns : goal.returns
 unfolding columns_fault
-returns c = sym (times-end sized-column c.args.frame.now c.loop-left.at c.loop-left.left c.loop-left-test.false) ∙ c.loop-left.invariant.0
+returns c = c.repeated.ensures (λ i. fault_at c.args.frame.now (columns_start + i * 4) column_field) (λ i l r p. search rules) ∙ among-times sized-column c.args.frame.now columns_start c.args.n

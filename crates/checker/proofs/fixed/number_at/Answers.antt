@@ -6,5 +6,5 @@ use Rattle.value.proofs.Fits.{back}
 use Rattle.checker.proofs.fixed.number_at.Goals as goal
 
 pub returns : goal.returns
-returns c = back w32 _ c.widen16.type_inv ∙ c.widen16.ensures ∙ back w16 _ c.from_bytes.type_inv ∙ c.from_bytes.ensures ∙ ap₂ (λ h l. bytes_z h l) c.item_at.ensures
+returns c = back w32 _ c.from.type_inv ∙ c.from.ensures ∙ back w16 _ c.from_bytes.type_inv ∙ c.from_bytes.ensures ∙ ap₂ (λ h l. bytes_z h l) c.item_at.ensures
     c.item_at-2.ensures

@@ -1,11 +1,20 @@
 -- `checker::fixed::table_head` meets its contract. Assumes nothing.
-use mathlib.Core.Path.{ap, ap₂, ◌∙◌}
+use mathlib.Core.Path.{ap, ◌∙◌}
 use Rattle.language.specs.Reading.{byte_if}
-use Rattle.checker.specs.Faults.{first, fault_at, under}
+use Rattle.checker.specs.Faults.{fault_at, under}
 use Rattle.checker.specs.FixedFaults.{table_head}
+use Rattle.checker.proofs.FaultLaws.{chain-stop, chain-go}
 use Rattle.checker.proofs.fixed.table_head.Goals as goal
+
+pub returns-in_err-between : goal.returns-in_err-between
+unfolding table_head
+returns-in_err-between c = chain-stop _ _ _ c.from_residual.ensures.1 c.in_err-between.ensures
+
+pub returns-in_err-between-2 : goal.returns-in_err-between-2
+unfolding table_head
+returns-in_err-between-2 c = chain-go c.in_ok-between.ensures (chain-stop _ _ _ c.from_residual-in_err-between-2.ensures.1 c.in_err-between-2.ensures)
 
 pub returns : goal.returns
 unfolding table_head
-returns c = c.first_of-2.ensures ∙ ap₂ first c.between-rows.ensures (c.first_of.ensures ∙ ap₂ first c.between-columns.ensures
-    (c.below-mask.ensures ∙ ap (λ k. fault_at c.args.frame.now 3 (byte_if 5 (under k))) c.masks_of.ensures))
+returns c = chain-go c.in_ok-between.ensures (chain-go c.in_ok-between-2.ensures
+    (c.below.ensures ∙ ap (λ k. fault_at c.args.frame.now 3 (byte_if 5 (under k))) c.masks_of.ensures))

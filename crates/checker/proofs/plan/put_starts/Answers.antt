@@ -4,29 +4,16 @@ use Rattle.checker.proofs.WalkLaws.{starts_none, starts_more, starts-full}
 use Rattle.checker.proofs.plan.put_starts.Goals as goal
 
 pub loop-r-init : goal.loop-r-init
-loop-r-init c = (omega arith, starts_none _ _ _ _)
-
-pub frame_number-requires : goal.frame_number-requires
-frame_number-requires c = omega arith
+loop-r-init c = starts_none _ _ _ _
 
 pub place_behind-start-requires : goal.place_behind-start-requires
 place_behind-start-requires c = c.frame_number.ensures.1
 
-pub overflow_add-r : goal.overflow_add-r
-overflow_add-r c = omega arith
-
-pub loop-r-smaller : goal.loop-r-smaller
-loop-r-smaller c = omega arith
-
 pub loop-r-preserved : goal.loop-r-preserved
-loop-r-preserved c = (
-  omega arith,
-  starts_more _ _ _ _ _ _ _ _ _ (omega arith) c.loop-r.invariant.1
-      c.frame_number.ensures.0 c.place_behind-start.ensures c.put_start.ensures,
-)
+loop-r-preserved c = starts_more _ _ _ _ _ _ _ _ _ (omega arith) c.loop-r.invariant c.frame_number.ensures.0 c.place_behind-start.ensures c.put_start.ensures
 
 pub shape_of-shape : goal.shape_of-shape
-shape_of-shape c = c.loop-r.invariant.1.kept.size
+shape_of-shape c = c.loop-r.invariant.kept.size
 
 pub returns : goal.returns
-returns c = starts-full _ _ _ _ _ _ (omega arith) c.loop-r.invariant.1
+returns c = starts-full _ _ _ _ _ _ (omega arith) c.loop-r.invariant

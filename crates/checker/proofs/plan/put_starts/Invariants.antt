@@ -4,7 +4,4 @@ use Rattle.checker.specs.Plans.{StartsPut}
 use Rattle.checker.proofs.plan.put_starts.Given as goal
 
 abbrev pub invariant-loop-r : goal.invariant-loop-r
-invariant-loop-r l = (l.r ≤ 16) × StartsPut l.bytes l.tables l.keys l.r l.initial.shape l.shape
-
-abbrev pub decreases-loop-r : goal.decreases-loop-r
-decreases-loop-r l = 16 - l.r
+invariant-loop-r l = StartsPut l.bytes l.tables l.keys l.r l.initial.shape l.shape

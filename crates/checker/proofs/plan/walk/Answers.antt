@@ -13,11 +13,10 @@ loop-at-init c = (refl, refl, omega arith, λ fs p h. walk_begins _ _ _ _ c.star
 pub overflow_add-line : goal.overflow_add-line
 overflow_add-line c = omega (arith, c.requires, c.loop-at.invariant.2)
 
-pub returns-then-next-ne0 : goal.returns-then-next-ne0
-returns-then-next-ne0 c = record {
+pub returns-in-Err : goal.returns-in-Err
+returns-in-Err c = record {
   walked = λ fs p h. walk-stops _ _ _ _ _ _ fs (c.loop-at.invariant.3 fs p h)
-      c.loop-at-test.true _ c.frame_at-frame.ensures _ _ _
-      c.frame_step-next.ensures c.if-next-ne0.true _;
+      c.loop-at-test.true _ c.frame_at-frame.ensures _ _ _ c.frame_step.ensures _ c.in-Err.is _ c.at.ensures;
 }
 
 pub overflow_add-at : goal.overflow_add-at
@@ -42,7 +41,7 @@ loop-at-preserved c = (
   omega arith,
   λ fs p h. walk-goes _ _ _ _ _ _ fs (c.loop-at.invariant.3 fs p h)
       c.loop-at-test.true _ c.frame_at-frame.ensures _ _ _
-      c.frame_step-next.ensures c.if-next-ne0.false,
+      c.frame_step.ensures _ c.in-Ok.is,
 )
 
 pub shape_of-shape : goal.shape_of-shape
@@ -52,4 +51,4 @@ pub shape_of-ends : goal.shape_of-ends
 shape_of-ends c = c.loop-at.invariant.1
 
 pub returns : goal.returns
-returns c = record { walked = λ fs p h. walk_ends _ _ _ _ _ _ fs (c.loop-at.invariant.3 fs p h) c.loop-at-test.false 0 }
+returns c = record { walked = λ fs p h. walk_ends _ _ _ _ _ _ fs (c.loop-at.invariant.3 fs p h) c.loop-at-test.false }

@@ -1,9 +1,10 @@
 -- `checker::step::key_step` meets its contract. Assumes nothing.
+use Rattle.text.proofs.Exits.{exit_is}
 use Rattle.checker.proofs.KindLaws.{key-refused, key-done}
 use Rattle.checker.proofs.step.key_step.Goals as goal
 
-pub returns-then-fault-ne0 : goal.returns-then-fault-ne0
-returns-then-fault-ne0 c = key-refused c.key_fault-fault.ensures c.if-fault-ne0.true
+pub returns-in_err-key_fault : goal.returns-in_err-key_fault
+returns-in_err-key_fault c = key-refused _ _ (exit_is _ c.from_residual.ensures.1) c.in_err-key_fault.ensures
 
 pub returns : goal.returns
-returns c = key-done c.key_fault-fault.ensures c.if-fault-ne0.false c.with_key.ensures
+returns c = key-done c.in_ok-key_fault.ensures c.with_key.ensures

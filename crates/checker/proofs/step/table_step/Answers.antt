@@ -1,10 +1,10 @@
 -- `checker::step::table_step` meets its contract. Assumes nothing.
+use Rattle.text.proofs.Exits.{exit_is}
 use Rattle.checker.proofs.KindLaws.{table-refused, table_done}
 use Rattle.checker.proofs.step.table_step.Goals as goal
 
-pub returns-then-fault-ne0 : goal.returns-then-fault-ne0
-returns-then-fault-ne0 c = table-refused c.table_fault-fault.ensures c.if-fault-ne0.true
+pub returns-in_err-table_fault : goal.returns-in_err-table_fault
+returns-in_err-table_fault c = table-refused _ _ (exit_is _ c.from_residual.ensures.1) c.in_err-table_fault.ensures
 
 pub returns : goal.returns
-returns c = table_done c.table_fault-fault.ensures c.if-fault-ne0.false
-    c.enter_table.ensures c.with_table.ensures
+returns c = table_done c.in_ok-table_fault.ensures c.enter_table.ensures c.with_table.ensures

@@ -1,12 +1,20 @@
 -- `checker::view_bytes::counted_groups` meets its contract. Assumes nothing.
+use mathlib.Core.Path.{refl}
 use Rattle.prefix.specs.Skipped.{open_of}
 use Rattle.checker.specs.Faults.{within}
-use Rattle.checker.proofs.ViewFrameLaws.{count-then}
 use Rattle.checker.specs.ViewFaults.{counted_where, counted_groups}
+use Rattle.checker.proofs.FaultLaws.{chain-stop, chain-go}
+use Rattle.checker.proofs.ViewFrameLaws.{count-then}
 use Rattle.checker.proofs.view_bytes.counted_groups.Goals as goal
+
+pub returns-in_err-between : goal.returns-in_err-between
+unfolding counted_groups
+returns-in_err-between c =
+    let s = c.args.reader.now in
+    count-then s.frame.now c.args.at (within 0 4) (counted_where (open_of s.shape.now s.setting)) c.item_at-g.ensures refl refl (chain-stop _ _ _ c.from_residual.ensures.1 c.in_err-between.ensures)
 
 pub returns : goal.returns
 unfolding counted_groups
-returns c = let a = c.args in
-    count-then a.frame.now a.at (within 0 4) (counted_where (open_of a.shape.now a.setting))
-    c.item_at-g.ensures c.between-groups.ensures c.counted_where-behind.ensures c.first_of.ensures
+returns c =
+    let s = c.args.reader.now in
+    count-then s.frame.now c.args.at (within 0 4) (counted_where (open_of s.shape.now s.setting)) c.item_at-g.ensures refl refl (chain-go c.in_ok-between.ensures c.counted_where.ensures)

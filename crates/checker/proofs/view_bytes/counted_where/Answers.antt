@@ -1,12 +1,20 @@
 -- `checker::view_bytes::counted_where` meets its contract. Assumes nothing.
+use mathlib.Core.Path.{refl}
 use Rattle.prefix.specs.Skipped.{open_of}
 use Rattle.checker.specs.Faults.{within}
-use Rattle.checker.proofs.ViewFrameLaws.{count-then}
 use Rattle.checker.specs.ViewFaults.{where_groups, counted_where}
+use Rattle.checker.proofs.FaultLaws.{chain-stop, chain-go}
+use Rattle.checker.proofs.ViewFrameLaws.{count-then}
 use Rattle.checker.proofs.view_bytes.counted_where.Goals as goal
+
+pub returns-in_err-between : goal.returns-in_err-between
+unfolding counted_where
+returns-in_err-between c =
+    let s = c.args.reader.now in
+    count-then s.frame.now c.args.at (within 1 8) (where_groups (open_of s.shape.now s.setting) c.args.g) c.item_at-m.ensures refl refl (chain-stop _ _ _ c.from_residual.ensures.1 c.in_err-between.ensures)
 
 pub returns : goal.returns
 unfolding counted_where
-returns c = let a = c.args in
-    count-then a.frame.now a.at (within 1 8) (where_groups (open_of a.shape.now a.setting) a.g)
-    c.item_at-m.ensures c.between-select.ensures c.where_groups-behind.ensures c.first_of.ensures
+returns c =
+    let s = c.args.reader.now in
+    count-then s.frame.now c.args.at (within 1 8) (where_groups (open_of s.shape.now s.setting) c.args.g) c.item_at-m.ensures refl refl (chain-go c.in_ok-between.ensures c.where_groups.ensures)

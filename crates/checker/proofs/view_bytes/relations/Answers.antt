@@ -1,22 +1,14 @@
 -- `checker::view_bytes::relations` meets its contract. Assumes nothing.
+use mathlib.Core.Path.{◌∙◌}
+use Prim.Native.Nat.{◌+◌}
 use native.Mathlib.Omega.{arith}
-use Rattle.checker.proofs.ViewByteLaws.{relations-holds, relations-again, relations-returns}
+use Rattle.std.proofs.Common.{rules}
+use Rattle.language.specs.Reading.{byte_if}
+use Rattle.checker.specs.Faults.{fault_at, under}
+use Rattle.checker.proofs.FaultLaws.{among-bytes}
 use Rattle.checker.proofs.view_bytes.relations.Goals as goal
 
-pub loop-i-init : goal.loop-i-init
-loop-i-init c = relations-holds _ _ _ (omega arith)
-
-pub overflow_sub-i : goal.overflow_sub-i
-overflow_sub-i c = omega arith
-
-pub overflow_add-i : goal.overflow_add-i
-overflow_add-i c = omega arith
-
-pub loop-i-smaller : goal.loop-i-smaller
-loop-i-smaller c = omega arith
-
-pub loop-i-preserved : goal.loop-i-preserved
-loop-i-preserved c = relations-again _ _ _ c.loop-i.invariant (omega arith) c.below.ensures c.first_of-fault.ensures
-
 pub returns : goal.returns
-returns c = relations-returns _ _ _ c.loop-i.invariant (omega arith)
+returns c =
+    c.repeated.ensures (λ i. fault_at c.args.frame.now (2 + i) (byte_if 6 (under c.args.count))) (λ i l r p. search rules)
+    ∙ among-bytes 6 (under c.args.count) (λ e. omega arith) c.args.frame.now 2 c.args.n

@@ -9,4 +9,4 @@ returns c = grouped-rules c.args.frame.now
     c.args.ends.now _ _
     c.args.o c.inside-places.result
     c.condition-h.result c.both.result
-    c.both.ensures c.inside-places.ensures.1 c.condition-h.ensures c.tail.ensures
+    c.both.ensures c.inside-places.ensures.1 (rw c.from.ensures at c.condition-h.ensures) c.tail.ensures

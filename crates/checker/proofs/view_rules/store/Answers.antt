@@ -3,10 +3,10 @@ use Rattle.bounds.specs.Walk.{is_within}
 use Rattle.checker.specs.ViewRules.{put_ranged}
 use Rattle.checker.proofs.view_rules.store.Goals as goal
 
-pub returns-in-Within : goal.returns-in-Within
+pub returns-in-Some : goal.returns-in-Some
 unfolding is_within put_ranged
-returns-in-Within c = (rw c.in-Within.is, rw c.in-Within.is c.put_range.ensures)
+returns-in-Some c = (rw c.in-Some.is, rw c.in-Some.is c.put_range.ensures)
 
-pub returns-in-Beyond : goal.returns-in-Beyond
+pub returns-in-None : goal.returns-in-None
 unfolding is_within put_ranged
-returns-in-Beyond c = (rw c.in-Beyond.is, rw c.in-Beyond.is)
+returns-in-None c = (rw c.in-None.is, rw c.in-None.is)

@@ -9,16 +9,10 @@ use Rattle.look.proofs.buffers.show.Goals as goal
 pub loop-j-init : goal.loop-j-init
 loop-j-init c = showing-none _ _ _ _
 
-pub loop-j-smaller : goal.loop-j-smaller
-loop-j-smaller c = omega arith
-
 pub loop-j-preserved : goal.loop-j-preserved
 loop-j-preserved c =
-    showing-more _ _ _ c.loop-j.invariant (omega arith) c.item_at-code.ensures
+    showing-more _ _ c.loop-j.invariant (omega arith)
     c.cell-v.ensures (back w16 _ c.shown.type_inv ∙ c.shown.ensures) c.put_item.ensures
-
-pub shape_of-instance : goal.shape_of-instance
-shape_of-instance c = c.loop-j.invariant.showing.length-kept
 
 pub returns : goal.returns
 returns c = showing-all c.loop-j.invariant (omega arith)

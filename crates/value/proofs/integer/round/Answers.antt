@@ -14,19 +14,13 @@ use Rattle.value.proofs.integer.round.Goals as goal
 -- the magnitude of the result, which 33 bits hold
 
 near-is : (c : goal.After-near-n) → c.near-n.result ≡ nearest c.args.m (nat_abs c.args.x)
-near-is c =
-    let s = c.before.before in
-    c.near-n.ensures ∙ ap (nearest s.args.m) (simp (to_z-of_z, s.ranges.x) at c.magnitude.ensures)
+near-is c = c.near-n.ensures ∙ ap (nearest c.args.m) (c.from.ensures ∙ (simp (to_z-of_z, c.ranges.x) at c.unsigned_abs.ensures.value))
 
 small : (c : goal.After-near-n) → c.near-n.result < 2 ^ 33
-small c =
-    let s = c.before.before in
-    omega (ints, near-is c, nearest-most s.args.m (nat_abs s.args.x), magnitude-parts s.args.x, s.ranges)
+small c = omega (ints, near-is c, nearest-most c.args.m (nat_abs c.args.x), magnitude-parts c.args.x, c.ranges)
 
 pub near-n-requires : goal.near-n-requires
-near-n-requires c =
-    let f = c.ranges.x in
-    omega (ints, simp (to_z-of_z, f) at c.magnitude.ensures, magnitude-parts c.args.x, f)
+near-n-requires c = omega (ints, c.from.ensures, c.unsigned_abs.ensures.bound)
 
 pub overflow_cast-n : goal.overflow_cast-n
 overflow_cast-n c = omega (ints, small c)

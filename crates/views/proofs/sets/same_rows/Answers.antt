@@ -1,16 +1,14 @@
 -- `views::sets::same_rows` meets its contract. Assumes nothing.
-use mathlib.Core.Path.{sym, ◌∙◌}
-use Rattle.views.proofs.Intersecting.{alike-none, alike-more, alike-stops, alike-whole}
+use mathlib.Core.Path.{refl, ◌∙◌}
+use native.Mathlib.Omega.{arith}
+use borrow.Author.Rules.{rules}
+use Rattle.std.proofs.lemmas.Iterator.{YieldsList-from_range}
+use Rattle.std.proofs.lemmas.Iterator.Search.{all_from_yields_List}
+use Rattle.views.proofs.Intersecting.{alike_at, alike-all}
 use Rattle.views.proofs.sets.same_rows.Goals as goal
 
-pub loop-c-init : goal.loop-c-init
-loop-c-init c = alike-none _ _ _ _ _
-
-pub returns-then-not-same : goal.returns-then-not-same
-returns-then-not-same c = alike-stops _ _ _ _ _ _ _ _ _ c.loop-c-test.true c.cell-x.ensures c.cell-y.ensures (sym c.same.ensures ∙ c.if-not-same.true)
-
-pub loop-c-preserved : goal.loop-c-preserved
-loop-c-preserved c = alike-more _ _ _ _ _ _ _ _ c.loop-c.invariant c.cell-x.ensures c.cell-y.ensures (sym c.same.ensures ∙ c.if-not-same.false)
-
 pub returns : goal.returns
-returns c = alike-whole _ _ _ _ _ _ _ c.loop-c.auto.c-end c.loop-c-test.false c.loop-c.invariant
+returns c =
+    let a = c.args in
+    all_from_yields_List (alike_at a.work.now a.a a.i a.b a.j) _ _ c.all.result c.all.ensures.ran
+    (YieldsList-from_range 0 a.width a.width refl (omega arith)) (λ x b q k. search rules) ∙ alike-all a.work.now a.a a.i a.b a.j a.width

