@@ -1,8 +1,9 @@
 #!/usr/bin/env python3
-"""Prints each public function, definition of specs/ and theorem of specs/ whose text changed since a commit, old and new side by side.
+"""Prints each public function, type, definition of specs/ and theorem whose text changed since a commit, old and new side by side.
 
-`tools/design/changes.py COMMIT` reads the commit and the checkout. For what is gone, tools/design/moved.txt says what states its promise now; what it
-says nothing of goes to standard error. docs/DESIGN-PASS.md ends with this list.
+`tools/design/changes.py COMMIT` reads the commit and the checkout. Of types it has public structs, enums, traits and constants, and the laws and invariants of
+impls of traits; of proofs/ the theorems that README or docs/ named at the commit. For what is gone, tools/design/moved.txt says what states its promise
+now; what it says nothing of goes to standard error. docs/DESIGN-PASS.md ends with this list.
 """
 import collections
 import pathlib
@@ -24,34 +25,85 @@ def files(commit, suffix):
             for n in names if pattern.fullmatch(n)}
 
 
+def plain(path, text):
+    """crate and module of a source file, and its lines without tests and comments."""
+    _, crate, _, rest = path.split("/", 3)
+    module = rest.removesuffix(".rt").replace("/", "::")
+    lines = [x for x in text.split("#[cfg(test)]")[0].split("\n") if not x.lstrip().startswith("//")]
+    return crate, "" if module in ("lib", "main") else module + "::", lines
+
+
+def block(lines, i):
+    """The lines from the i-th to the one that closes it, as one."""
+    if lines[i].rstrip().endswith((";", "}")):
+        return lines[i].strip()
+    indent = re.match(" *", lines[i])[0]
+    end = next((k for k in range(i + 1, len(lines)) if lines[k].rstrip(";,") in (indent + "}", indent + "]")), len(lines) - 1)
+    return " ".join(" ".join(lines[i:end + 1]).split())
+
+
+def head(lines, i):
+    """The signature and the clauses of the function that begins there."""
+    indent, parts = re.match(" *", lines[i])[0], []
+    for k in range(i, len(lines)):
+        line = lines[k].rstrip()
+        if line == indent + "{":
+            break
+        parts.append(line.strip())
+        if line.endswith(";") or (line.endswith("{") and not re.search(r"\b(ensures|requires|ghost)\b", line)):
+            break
+    return " ".join(parts).removesuffix(" {").removesuffix(";")
+
+
 def functions(commit):
-    """crate, module, type and name of each public function, with its signature and clauses."""
+    """crate, module, type and name of each public function, with its signature and clauses. The functions of a trait and of an impl of one are
+    listed with the trait and the impl."""
     out = {}
     for path, text in files(commit, "rt").items():
-        _, crate, _, rest = path.split("/", 3)
-        module = rest.removesuffix(".rt").replace("/", "::")
-        text = text.split("#[cfg(test)]")[0]
-        place = "" if module in ("lib", "main") else module + "::"
-        owner = ""
-        lines = text.split("\n")
+        crate, place, lines = plain(path, text)
+        owner, trait = "", False
         for i, line in enumerate(lines):
-            m = re.match(r"(?:impl(?:<[^>]*>)?|pub trait) (.+?) \{", line)
+            m = re.match(r"(?:impl(?:<[^>]*>)? |pub trait )(.+?) \{", line)
             if m:
-                owner = re.sub(r"<'\w+>", "", m[1]) + "::"
+                trait = " for " in m[1] or line.startswith("pub trait")
+                owner = "" if trait else re.sub(r"<'\w+>", "", m[1]) + "::"
             if line == "}":
-                owner = ""
-            m = re.match(r"( *)(pub(?:\(crate\))? |)(?:unsafe )?(?:extern \"C\" )?fn (\w+)", line)
-            public = m and (m[2] == "pub " or (" for " in owner))
-            if not public:
+                owner, trait = "", False
+            m = re.match(r" *pub (?:unsafe )?(?:const )?(?:extern \"C\" )?fn (\w+)", line)
+            if m and not trait:
+                key = crate, f"{place}{owner}{m[1]}"
+                if key in out:
+                    print(f"two functions of one name: {' '.join(key)}", file=sys.stderr)
+                out[key] = head(lines, i)
+    return out
+
+
+def types(commit):
+    """crate, module and name of each public struct, enum, trait and constant, with its text; of each impl of a trait its ghost items, which are its
+    laws or the type's invariant, and the heads of its functions."""
+    out = {}
+    for path, text in files(commit, "rt").items():
+        crate, place, lines = plain(path, text)
+        derived = ""
+        for i, line in enumerate(lines):
+            if line.startswith("#[derive"):
+                derived = line + " "
                 continue
-            indent, head = m[1], []
-            for k in range(i, len(lines)):
-                if lines[k] == indent + "{":
-                    break
-                head.append(lines[k].strip())
-                if lines[k].rstrip().endswith("{") and not re.search(r"(ensures|requires|ghost)", lines[k]):
-                    break
-            out[crate, f"{place}{owner}{m[3]}"] = " ".join(head).removesuffix(" {")
+            m = re.match(r"pub (?:struct|enum|trait|const|type) (\w+)", line)
+            if m:
+                out[crate, place + m[1]] = derived + block(lines, i)
+            m = re.match(r"impl(?:<[^>]*>)? (.+? for .+?) \{", line)
+            if m:
+                end = next((k for k in range(i, len(lines)) if lines[k] in ("}", line) and lines[k] == "}"), i)
+                parts = []
+                for k in range(i + 1, end):
+                    if re.match(r"    (?:ghost \w+ = |type )", lines[k]):
+                        parts.append(block(lines, k))
+                    elif re.match(r"    fn ", lines[k]):
+                        parts.append(head(lines, k) + ";")
+                out[crate, f"{place}{m[1]}"] = " ".join([line.removesuffix(" {")] + parts)
+            if not line.startswith("#["):
+                derived = ""
     return out
 
 
@@ -65,7 +117,7 @@ def definitions(commit):
         block, name = [], None
         for line in text.split("\n") + ["pub end-of-file"]:
             m = NAME.match(line)
-            starts = re.match(r"\S", line) and not line.startswith(("--", "use ", "pub use", "unfolding"))
+            starts = re.match(r"\S", line) and not line.startswith(("--", "use ", "pub use", "unfolding", "}"))
             if m and name and m[1] == name:
                 starts, m = False, None
             if starts and (m or (name and not line.startswith(name.split("◌")[0] or "◌"))):
@@ -77,28 +129,46 @@ def definitions(commit):
     return out
 
 
-def theorems(commit):
-    """crate, file and name of each theorem of proofs/ that README or docs/ name at the commit, with its statement."""
+def shown(commit, pattern):
+    """The files at a commit, or of the checkout, whose names match."""
     if commit is None:
-        return {}
-    docs = subprocess.run(["git", "ls-tree", "-r", "--name-only", commit, "README.md", "docs"], cwd=root, capture_output=True, text=True, check=True).stdout.split()
-    text = "\n".join(subprocess.run(["git", "show", f"{commit}:{n}"], cwd=root, capture_output=True, text=True, check=True).stdout for n in docs if "PORT-NAMES" not in n)
-    return set(re.findall(r"`([A-Za-z][\w'-]*)`", text))
+        every = {str(p.relative_to(root)): p for p in sorted(root.glob("**/*")) if ".git" not in p.parts and p.is_file()}
+        return {n: p.read_text() for n, p in every.items() if re.fullmatch(pattern, n)}
+    names = subprocess.run(["git", "ls-tree", "-r", "--name-only", commit], cwd=root, capture_output=True, text=True, check=True).stdout.split("\n")
+    return {n: subprocess.run(["git", "show", f"{commit}:{n}"], cwd=root, capture_output=True, text=True, check=True).stdout
+            for n in names if re.fullmatch(pattern, n)}
+
+
+def theorems(commit):
+    """The names in backticks that README and docs/ have at the commit: `File.name` as a pair, and a name alone with no file."""
+    text = "\n".join(t for n, t in shown(commit, r"README\.md|docs/(?!PORT-NAMES)[\w/-]+\.md").items())
+    pairs = {(m[1], m[2]) for m in re.finditer(r"`(\w+)\.([A-Za-z][\w'-]*)`", text)}
+    return pairs | {(None, m[1]) for m in re.finditer(r"`([A-Za-z][\w'-]*)`", text)}
 
 
 def statements(commit, names):
+    """crate, file and name of each theorem of proofs/ that is among the names, with its statement; of what is no theorem but a definition the whole."""
     out = {}
-    if commit is None:
-        every = {str(p.relative_to(root)): p.read_text() for p in sorted(root.glob("crates/*/proofs/*.antt"))}
-    else:
-        paths = subprocess.run(["git", "ls-tree", "-r", "--name-only", commit, "crates"], cwd=root, capture_output=True, text=True, check=True).stdout.split()
-        every = {n: subprocess.run(["git", "show", f"{commit}:{n}"], cwd=root, capture_output=True, text=True, check=True).stdout
-                 for n in paths if re.fullmatch(r"crates/\w+/proofs/\w+\.antt", n)}
-    for path, text in every.items():
+    for path, text in shown(commit, r"crates/\w+/proofs/\w+\.antt").items():
         _, crate, _, rest = path.split("/", 3)
-        for m in re.finditer(r"^ *pub (\S+) :((?:.|\n(?! *(?:unfolding|pub|\1 )))*)", text, re.M):
-            if m[1] in names:
-                out[crate, rest.removesuffix(".antt"), m[1]] = f"{m[1]} : {' '.join(m[2].split())}"
+        file = rest.removesuffix(".antt")
+        lines = text.split("\n")
+        opening = ""
+        for i, line in enumerate(lines):
+            if re.match(r"\S", line) and not line.startswith("--"):
+                opening = line
+            m = re.match(r"( *)pub ([^\s:({]+) :(?: |$)", line)
+            # (a field of a record is no theorem)
+            if not m or (m[1] and re.match(r"(?:abbrev |unfoldable )?(?:pub )?(?:record|data) ", opening)):
+                continue
+            if (file, m[2]) not in names and (None, m[2]) not in names:
+                continue
+            parts = [line.strip()]
+            for k in range(i + 1, len(lines)):
+                if not lines[k].startswith(m[1] + " ") or re.match(r" *(?:unfolding|pub) ", lines[k]) or lines[k].lstrip().startswith("--"):
+                    break
+                parts.append(lines[k].strip())
+            out[crate, file, m[2]] = " ".join(parts)
     return out
 
 
@@ -145,6 +215,7 @@ def main():
     commit = sys.argv[1]
     table = moved()
     show("Public functions", functions(commit), functions(None), table)
+    show("Public types and constants, and impls of traits", types(commit), types(None), table)
     show("Definitions and theorems of specs/", definitions(commit), definitions(None), table)
     names = theorems(commit)
     show("Theorems of proofs/ that README or docs/ name", statements(commit, names), statements(None, names), table)
