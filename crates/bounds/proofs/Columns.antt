@@ -6,7 +6,7 @@ use mathlib.Core.List.{List, []}
 use Prim.Native.Nat.{ℕ, zero, suc, ◌+◌, ◌*◌, ◌-◌, ◌≤◌, ◌<◌, min}
 use native.Mathlib.Omega.{arith}
 use lib.Dec.{eqb, leb}
-use lib.IntN.{ℤ, pos}
+use lib.IntN.{pos}
 use lib.ListN.{length, get_or, get_or-eq_default, length-map}
 use borrow.Author.Tests.{leb-true, leb-false}
 use mir.Syntax.{w32}
@@ -18,28 +18,29 @@ use Rattle.range.proofs.Bits32.{ranged-fits}
 use Rattle.meaning.specs.Syntax.{Place}
 use Rattle.meaning.specs.Bounds.{any_column, grouping_column}
 use Rattle.meaning.proofs.ListSteps.{map_at}
-use Rattle.catalog.specs.Arrays.{ranges_in, range_at, items_in}
+use Rattle.catalog.specs.Relations.{ranges_in, range_at, items_in}
 use Rattle.bounds.specs.Walk.{places_from, item_range, permitted_in, permitted_of, is_grouped, is_where}
 use Rattle.bounds.specs.declared.Part.{Part}
 use Rattle.bounds.specs.declared.Part.TheVariants.{Where, Plain, Grouped}
 use Rattle.bounds.specs.declared.Rule.{Rule}
+use Rattle.catalog.specs.declared.relation.Relation.{Relation}
 
 -- ---- columns
 
-module _ (shape : List ℕ) (ends : List ℤ) (items : List ℕ) (i c : ℕ) where
+module _ (relations : List Relation) (items : List ℕ) (i c : ℕ) where
   abbrev Answers : Range → Type 0
-  Answers r = Some r ≡ ranged (item_range shape ends items i c)
+  Answers r = Some r ≡ ranged (item_range relations items i c)
 
   pub no_item : length items ≤ i → Answers (constant_of (pos 0))
   unfolding item_range ranged
   no_item h =
-      let k : length (items_in shape ends items) ≤ i = rw (length-map items (ranges_in shape ends)) h in
-      rw (get_or-eq_default (items_in shape ends items) [] k)
+      let k : length (items_in relations items) ≤ i = rw (length-map items (ranges_in relations)) h in
+      rw (get_or-eq_default (items_in relations items) [] k)
 
-  pub some_item : i < length items → {r : Range} → SFits w32 r.lo → SFits w32 r.hi → r ≡ range_at shape ends (get_or items i 0) c → Answers r
+  pub some_item : i < length items → {r : Range} → SFits w32 r.lo → SFits w32 r.hi → r ≡ range_at relations (get_or items i 0) c → Answers r
   unfolding item_range
   some_item h {r} l u e =
-      let there = ap (λ (rs : List Range). get_or rs c (constant_of (pos 0))) (map_at (ranges_in shape ends) items i 0 [] h) in
+      let there = ap (λ (rs : List Range). get_or rs c (constant_of (pos 0))) (map_at (ranges_in relations) items i 0 [] h) in
       sym (ranged-fits r l u) ∙ ap (λ (q : Range). ranged q) (e ∙ sym there)
 
 -- ---- grouping columns

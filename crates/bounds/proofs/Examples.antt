@@ -5,7 +5,7 @@ use mathlib.Core.Path.{◌≡◌, refl}
 use mathlib.Core.Bool.{Bool, true, false}
 use mathlib.Core.List.{List, [], ◌∷◌}
 use Prim.Native.Nat.{ℕ}
-use lib.IntN.{ℤ, pos, negsuc}
+use lib.IntN.{pos, negsuc}
 use Rattle.value.specs.Integer.{min_z, max_z}
 use Rattle.value.specs.Value.{Operation, Comparison, Aggregate}
 use Rattle.range.specs.Ranges.{constant_of, range_from}
@@ -13,17 +13,14 @@ use Rattle.range.specs.declared.Range.{Range}
 use Rattle.meaning.specs.Syntax.{Expr, Cond}
 use Rattle.meaning.specs.Lists.{listed}
 use Rattle.meaning.specs.Bounds.{OpenRanges, within_c, Permitted, allowed_e, allowed_c}
-use Rattle.catalog.specs.Arrays.{ranges_from}
+use Rattle.catalog.specs.declared.relation.Relation.{Relation}
 use Rattle.catalog.specs.Items.{open_ranges_in}
 use Rattle.bounds.specs.declared.Part.{Part}
 use Rattle.bounds.specs.declared.Part.TheVariants.{Where, Plain, Grouped}
 use Rattle.bounds.specs.Walk.{places_from, permitted_of, item_range, ranged_e}
 
-abbrev shape : List ℕ
-shape = 1 ∷ 2 ∷ 4 ∷ 1 ∷ []
-
-abbrev ends : List ℤ
-ends = pos 0 ∷ pos 9 ∷ negsuc 4 ∷ pos 5 ∷ []
+abbrev relations : List Relation
+relations = record { width = 2; bound = 4; mask = 1; start = 0; ranges = range_from (pos 0) (pos 9) ∷ range_from (negsuc 4) (pos 5) ∷ [] } ∷ []
 
 abbrev column : ℕ → Expr
 column c = Expr.column 0 c
@@ -39,27 +36,27 @@ cube = Expr.operation Operation.product large (Expr.operation Operation.product 
 
 -- ---- ranges
 
-there : item_range shape ends (0 ∷ []) 0 1 ≡ range_from (negsuc 4) (pos 5)
-unfolding item_range ranges_from
+there : item_range relations (0 ∷ []) 0 1 ≡ range_from (negsuc 4) (pos 5)
+unfolding item_range listed
 there = refl
 
-not_there : item_range shape ends (0 ∷ []) 0 2 ≡ constant_of (pos 0)
-unfolding item_range ranges_from
+not_there : item_range relations (0 ∷ []) 0 2 ≡ constant_of (pos 0)
+unfolding item_range listed
 not_there = refl
 
 abbrev items : OpenRanges
-items = open_ranges_in shape ends 1 (0 ∷ []) 4
+items = open_ranges_in relations 1 (0 ∷ []) 4
 
 abbrev answer : Expr → Option Range
 answer e = ranged_e items e
 
 of-a-sum : answer (total (column 1)) ≡ Some (range_from (negsuc 19) (pos 20))
-unfolding ranged_e ranges_from min_z max_z
+unfolding ranged_e listed min_z max_z
 of-a-sum = refl
 
 -- a range inside counts, also where the whole fits
 inside-counts : answer (Expr.aggregate Aggregate.count cube) ≡ None
-unfolding ranged_e ranges_from min_z max_z
+unfolding ranged_e listed min_z max_z
 inside-counts = refl
 
 -- 32767 * 32767 * column 1 of from item 1 < 32767
@@ -69,12 +66,12 @@ second-item =
 
 -- that column is -5 to 5 where 17 has opened the table's row
 inside-exists : within_c items (Cond.exists 0 second-item) ≡ false
-unfolding ranges_from listed min_z max_z
+unfolding listed min_z max_z
 inside-exists = refl
 
 -- and 0 to 0 where no such item is open
 outside-exists : within_c items second-item ≡ true
-unfolding ranges_from listed min_z max_z
+unfolding listed min_z max_z
 outside-exists = refl
 
 -- ---- the rule on 07, in having or select

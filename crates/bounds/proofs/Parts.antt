@@ -15,6 +15,7 @@ use Rattle.meaning.specs.Syntax.{Expr, Cond}
 use Rattle.meaning.specs.Bounds.{OpenRanges, range, within_e, within_c}
 use Rattle.catalog.specs.Items.{open_ranges_in}
 use Rattle.bounds.specs.Walk.{item_range, ranged_e, operated_r, rounded_r, hull_r, chosen_r, aggregated_r, is_within}
+use Rattle.catalog.specs.declared.relation.Relation.{Relation}
 
 -- the range, if it and the parts fit
 abbrev fitting : Bool → Range → Option Range
@@ -99,7 +100,7 @@ module _ (o : OpenRanges) where
   unfolding is_within
   ranged-beyond e h = sym (ranged-is e) ∙ ap is_within h
 
-pub ranged-column : (shape : List ℕ) (ends : List ℤ) (n : ℕ) (items : List ℕ) (R i c : ℕ)
-    → ranged (item_range shape ends items i c) ≡ ranged_e (open_ranges_in shape ends n items R) (Expr.column i c)
+pub ranged-column : (relations : List Relation) (n : ℕ) (items : List ℕ) (R i c : ℕ)
+    → ranged (item_range relations items i c) ≡ ranged_e (open_ranges_in relations n items R) (Expr.column i c)
 unfolding ranged_e ranged item_range
-ranged-column shape ends n items R i c = refl
+ranged-column relations n items R i c = refl

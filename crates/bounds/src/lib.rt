@@ -9,8 +9,9 @@ ghost use Rattle.meaning.specs.Bounds.{grouping_column};
 ghost use Rattle.catalog.specs.Items.{relations_in};
 ghost use Rattle.bounds.specs.Walk.{places_from, permitted_of, is_grouped, is_where, inside_of, where_of, item_range, column_sized, operated_r, rounded_r, hull_r, chosen_r, aggregated_r, sized, tested, SizesE, SizesTwo, TestsC};
 
-use catalog::items::{Items, opened, relation};
-use catalog::{arrays, frames};
+use catalog::items::Items;
+use catalog::relation::Relation;
+use catalog::{frames, relation};
 use range::Range;
 use slice::item_at;
 use value::integer;
@@ -39,8 +40,7 @@ pub struct Rule {
 pub struct Scope<'a> {
     pub frame: &'a [u8],
     pub items: Items,
-    pub shape: &'a [u8],
-    pub ends: &'a [i32],
+    pub relations: &'a [Relation],
     pub rule: Rule,
 }
 
@@ -204,19 +204,19 @@ impl Rule {
 impl Scope<'_> {
     // The range of a column of a from item.
     fn range_of(&self, item: u8, column: u8) -> Option<Range>
-        ensures { result ≡ ranged (item_range self.now.shape.now self.now.ends.now (relations_in self.now.items) item column) }
+        ensures { result ≡ ranged (item_range self.now.relations.now (relations_in self.now.items) item column) }
     {
         if self.items.number <= item {
             return Some(Range { lo: 0, hi: 0 });
         }
-        let relation = relation(self.items, item);
-        Some(arrays::range_at(self.shape, self.ends, relation, column))
+        let relation = self.items.relation(item);
+        Some(relation::range_at(self.relations, relation, column))
     }
 
     // The column that two bytes name.
     fn column(&self, at: usize) -> Sized
         requires { at ≤ length self.now.frame.now }
-        ensures { result ≡ column_sized self.now.frame.now at (relations_in self.now.items) self.now.shape.now self.now.ends.now self.now.rule }
+        ensures { result ≡ column_sized self.now.frame.now at (relations_in self.now.items) self.now.relations.now self.now.rule }
     {
         let item = item_at(self.frame, at, 0);
         let number = item_at(self.frame, at + 1, 0);
@@ -227,7 +227,7 @@ impl Scope<'_> {
     // Two expressions, one after the other.
     #[cycle(condition_expression_two)]
     fn two(&self, at: usize) -> TwoSized
-        ensures { SizesTwo self.now.frame.now at (relations_in self.now.items) self.now.shape.now self.now.ends.now self.now.rule result }
+        ensures { SizesTwo self.now.frame.now at (relations_in self.now.items) self.now.relations.now self.now.rule result }
     {
         let a = self.expression(at);
         let b = self.expression(a.next);
@@ -244,7 +244,7 @@ impl Scope<'_> {
     // Refused: the operands of a difference swapped; the token for the kind of an aggregate.
     #[cycle(condition_expression_two)]
     pub fn expression(&self, at: usize) -> Sized
-        ensures { SizesE self.now.frame.now at (relations_in self.now.items) self.now.shape.now self.now.ends.now self.now.rule result }
+        ensures { SizesE self.now.frame.now at (relations_in self.now.items) self.now.relations.now self.now.rule result }
     {
         if self.frame.len() <= at {
             return sizing(at, false, None);
@@ -288,7 +288,7 @@ impl Scope<'_> {
     // Refused: the range of a second operand lost; the end of the first of two conditions; the condition behind 17 with no item opened.
     #[cycle(condition_expression_two)]
     pub fn condition(&self, at: usize) -> Tested
-        ensures { TestsC self.now.frame.now at (relations_in self.now.items) self.now.shape.now self.now.ends.now self.now.rule result }
+        ensures { TestsC self.now.frame.now at (relations_in self.now.items) self.now.relations.now self.now.rule result }
     {
         if self.frame.len() <= at {
             return testing(at, false, false);
@@ -309,7 +309,7 @@ impl Scope<'_> {
             }
             0x17 => {
                 let inner = Scope {
-                    items: opened(self.items, item_at(self.frame, body, 0)),
+                    items: self.items.opened(item_at(self.frame, body, 0)),
                     rule: self.rule.in_where(),
                     ..*self
                 };

@@ -24,6 +24,7 @@ use Rattle.catalog.specs.FileIn.{Source, FileIn, goal_of}
 use Rattle.catalog.specs.declared.outline.Outline.{Outline}
 use Rattle.catalog.specs.declared.plan.Goal.{Goal as GoalHere}
 use Rattle.catalog.proofs.FileLaws.{width_is, columns-are}
+use Rattle.catalog.specs.declared.relation.Relation.{Relation}
 use Rattle.store.specs.Rows.{rows_in}
 use Rattle.store.proofs.RowLaws.{rows-length, only_same, only-more, only_wider}
 use Rattle.views.proofs.Copying.{apart-same}
@@ -56,8 +57,8 @@ module _ {frame : List ℕ} {needs : Needs} {memory : Memory} {v : ℕ} where
     noted = λ f l. (r, R, rw e (get_or-set_same memory.signs v b 0 l) ∙ q ∙ tick-one r);
   }
 
-module _ {frame shape : List ℕ} {needs : Needs} {counts : List ℕ} {work : List ℤ} {v : ℕ} where
-  pub rows-unneeded : {b : Bool} → b ≡ get_or needs.rows v false → b ≡ false → RowsNoted frame shape needs counts work v counts work
+module _ {frame : List ℕ} {relations : List Relation} {needs : Needs} {counts : List ℕ} {work : List ℤ} {v : ℕ} where
+  pub rows-unneeded : {b : Bool} → b ≡ get_or needs.rows v false → b ≡ false → RowsNoted frame relations needs counts work v counts work
   rows-unneeded e h = record {
     apart = apart-same v work;
     size = refl;
@@ -65,8 +66,8 @@ module _ {frame shape : List ℕ} {needs : Needs} {counts : List ℕ} {work : Li
     noted = λ f l. absurd (no_flag e h f);
   }
 
-  pub rows-noted : {n : ℕ} {work' : List ℤ} {counts' : List ℕ} → ViewRows frame shape counts work v n work' → counts' ≡ set counts v n
-      → RowsNoted frame shape needs counts work v counts' work'
+  pub rows-noted : {n : ℕ} {work' : List ℤ} {counts' : List ℕ} → ViewRows frame relations counts work v n work' → counts' ≡ set counts v n
+      → RowsNoted frame relations needs counts work v counts' work'
   rows-noted {n} {work'} A e = record {
     apart = A.apart;
     size = rw e (length-set counts v n);
@@ -80,13 +81,13 @@ module _ {frame shape : List ℕ} {needs : Needs} {counts : List ℕ} {work : Li
 pub record Turned (source : Source) (needs : Needs) (memory memory' : Memory) (v : ℕ) : Type 0 where
   pub first : source.outline.tables ≤ v
   pub kept : OnlyViews source.outline memory memory'
-  pub known : {F : File} {g : Goal} {d : Database} {ends : List ℤ} → FileIn F source ends → Ready F g d needs memory → Known F d needs memory' v
+  pub known : {F : File} {g : Goal} {d : Database} → FileIn F source → Ready F g d needs memory → Known F d needs memory' v
 
 kept_same : (o : Outline) (memory : Memory) → OnlyViews o memory memory
 kept_same o memory = record { counts-size = refl; signs-size = refl; cells = only_same memory.work; counts = λ i h. refl; signs = λ i h. refl }
 
 -- the tables are known
-tables-known : {F : File} {g : Goal} {d : Database} {source : Source} {ends : List ℤ} {needs : Needs} {memory : Memory} → FileIn F source ends → Ready F g d needs memory
+tables-known : {F : File} {g : Goal} {d : Database} {source : Source} {needs : Needs} {memory : Memory} → FileIn F source → Ready F g d needs memory
     → (v : ℕ) → v ≤ length F.tables → Known F d needs memory v
 tables-known {F} {d = d} {memory = memory} G R v h = record {
   rows-known = λ i l f.
@@ -105,8 +106,8 @@ module _ {source : Source} {needs : Needs} {memory : Memory} where
   }
 
   pub turned_more : {memory₁ : Memory} {v : ℕ} {frame : List ℕ} → Turned source needs memory memory₁ v → v < source.outline.relations
-      → frame ≡ frame_in source.bytes source.shape v → {signs₂ : List ℕ} {work₂ : List ℤ} → SignNoted frame needs memory₁ v signs₂ work₂
-      → {counts₂ : List ℕ} {work₃ : List ℤ} → RowsNoted frame source.shape needs memory₁.counts work₂ v counts₂ work₃
+      → frame ≡ frame_in source.bytes source.relations v → {signs₂ : List ℕ} {work₂ : List ℤ} → SignNoted frame needs memory₁ v signs₂ work₂
+      → {counts₂ : List ℕ} {work₃ : List ℤ} → RowsNoted frame source.relations needs memory₁.counts work₂ v counts₂ work₃
       → Turned source needs memory (memory_from counts₂ signs₂ work₃) (v + 1)
   turned_more {v = v} T l here S N =
       let own : (r : ℕ) → r ≡ v → ViewIn source.outline r = λ r e. (omega (arith, T.first), omega arith) in

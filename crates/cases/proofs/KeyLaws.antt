@@ -25,6 +25,7 @@ use Rattle.language.specs.Written.{mask_of}
 use Rattle.language.proofs.MaskLaws.{bits_back}
 use Rattle.catalog.specs.FileIn.{Source, FileIn}
 use Rattle.catalog.proofs.FileLaws.{columns-are}
+use Rattle.catalog.specs.declared.relation.Relation.{Relation}
 use Rattle.store.specs.Layout.{cell_in}
 use Rattle.store.specs.Rows.{row_in, rows_in}
 use Rattle.store.proofs.RowLaws.{row-length, cell-of-row}
@@ -90,10 +91,10 @@ module _ (work : List ℤ) (t w mask : ℕ) where
     unfolding key_in
     keyed-is n e = rw (ne_eqb mask 0 n) (sym e ∙ pairwise-rows work t w (differ (mask_bits w mask)) rows)
 
-pub key-there : (shape counts : List ℕ) (work : List ℤ) (t : ℕ) {x : Counted} {r : Bool} → x ≡ table_in shape counts t
-    → r ≡ key_in work x.number x.rows x.width x.mask → key_at shape counts work t ≡ r
+pub key-there : (relations : List Relation) (counts : List ℕ) (work : List ℤ) (t : ℕ) {x : Counted} {r : Bool} → x ≡ table_in relations counts t
+    → r ≡ key_in work x.number x.rows x.width x.mask → r ≡ key_at relations counts work t
 unfolding key_at
-key-there shape counts work t ex e = sym (e ∙ ap (λ (y : Counted). key_in work y.number y.rows y.width y.mask) ex)
+key-there relations counts work t ex e = e ∙ ap (λ (y : Counted). key_in work y.number y.rows y.width y.mask) ex
 
 -- ---- the tables of a file
 
@@ -110,12 +111,12 @@ key-told : (work : List ℤ) (t rows : ℕ) (tb : Table) → key_in work t rows 
 unfolding key_in
 key-told work t rows tb = ap₂ (λ (b : Bool) (ks : List Bool). b || pairwise (differ ks) (rows_in work t (length tb.key) rows)) (no_key tb.key) (bits_back tb.key)
 
-pub keys-told : {F : File} {d : Database} {source : Source} {ends : List ℤ} {counts : List ℕ} {work : List ℤ} → FileIn F source ends → Shaped F d → TablesIn F d counts work
-    → keys_in source.shape counts work source.outline.tables ≡ each key_holds F.tables d
+pub keys-told : {F : File} {d : Database} {source : Source} {counts : List ℕ} {work : List ℤ} → FileIn F source → Shaped F d → TablesIn F d counts work
+    → keys_in source.relations counts work source.outline.tables ≡ each key_holds F.tables d
 unfolding key_at
 keys-told {F} {d} {source} {counts = counts} {work = work} G sh s =
-    ap (keys_in source.shape counts work) G.tables
-    ∙ all-each key_holds no_table [] (key_at source.shape counts work) F.tables d (each-length sh)
+    ap (keys_in source.relations counts work) G.tables
+    ∙ all-each key_holds no_table [] (key_at source.relations counts work) F.tables d (each-length sh)
     (λ t h.
     let tb = table_at F.tables t in
     let rows = get_or counts t 0 in

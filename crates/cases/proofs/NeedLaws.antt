@@ -6,7 +6,6 @@ use mathlib.Core.Option.{some}
 use Prim.Native.Nat.{ℕ, suc, ◌+◌, ◌-◌, ◌≤◌, ◌<◌}
 use native.Mathlib.Omega.{arith}
 use lib.Dec.{eqb, ltb, leb}
-use lib.IntN.{ℤ}
 use lib.ListN.{length, get_or, length-set}
 use borrow.Author.Tests.{eqb-true, eqb-false, lt-ltb, le-leb}
 use Rattle.value.specs.Bag.{All}
@@ -134,10 +133,10 @@ grown-signs {needs = needs} y = record { rows = rw y.rows-kept (more_same needs.
 -- the flags at first, and as they are
 pub record Reached (source : Source) (first : Needs) (v : ℕ) (needs : Needs) : Type 0 where
   pub here : let o = source.outline in
-      with_needs source.bytes source.shape o.tables (v - o.tables) needs ≡ with_needs source.bytes source.shape o.tables (o.relations - o.tables) first
+      with_needs source.bytes source.relations o.tables (v - o.tables) needs ≡ with_needs source.bytes source.relations o.tables (o.relations - o.tables) first
   pub rows : More first.rows needs.rows
   pub signs : More first.signs needs.signs
-  pub from : {F : File} {ends : List ℤ} → FileIn F source ends → length first.rows ≡ 16 → length first.signs ≡ 16 → From F v needs
+  pub from : {F : File} → FileIn F source → length first.rows ≡ 16 → length first.signs ≡ 16 → From F v needs
 
 asks-more : {needs needs' : Needs} → Grown needs needs' → (q : View) → Asks needs q → Asks needs' q
 asks-more n (View.basic fs w es) h = more-all n.rows h
@@ -169,9 +168,9 @@ reached-none source first = record {
 }
 
 module _ {source : Source} {first : Needs} {v : ℕ} {needs needs₁ needs₂ : Needs} {frame : List ℕ} (r : Reached source first v needs) (h : source.outline.tables < v)
-    (l : v ≤ source.outline.relations) (place : frame ≡ frame_in source.bytes source.shape (v - 1))
+    (l : v ≤ source.outline.relations) (place : frame ≡ frame_in source.bytes source.relations (v - 1))
     (x : NeedsRows frame needs (v - 1) needs₁) (y : NeedsSigns frame needs₁ (v - 1) needs₂) where
-  module _ {F : File} {ends : List ℤ} (G : FileIn F source ends) (rows-size : length first.rows ≡ 16) (signs-size : length first.signs ≡ 16) where
+  module _ {F : File} (G : FileIn F source) (rows-size : length first.rows ≡ 16) (signs-size : length first.signs ≡ 16) where
     few : v - 1 < 16
     few = omega (arith, h, l, G.relations, G.legal.relation_count)
 
@@ -219,8 +218,8 @@ module _ {source : Source} {first : Needs} {v : ℕ} {needs needs₁ needs₂ : 
         turn-of q₀ here
 
   -- view v - 1 is the last that is left
-  needs-left : with_needs source.bytes source.shape source.outline.tables (v - 1 - source.outline.tables) needs₂
-      ≡ with_needs source.bytes source.shape source.outline.tables (v - source.outline.tables) needs
+  needs-left : with_needs source.bytes source.relations source.outline.tables (v - 1 - source.outline.tables) needs₂
+      ≡ with_needs source.bytes source.relations source.outline.tables (v - source.outline.tables) needs
   unfolding with_needs
   needs-left =
       let t = source.outline.tables in
@@ -228,7 +227,7 @@ module _ {source : Source} {first : Needs} {v : ℕ} {needs needs₁ needs₂ : 
       let s : v - t ≡ suc n = omega arith in
       let u : v - 1 ≡ t + n = omega arith in
       let b = source.bytes in
-      let a = source.shape in
+      let a = source.relations in
       let both : (f : List ℕ) (w : ℕ) → Needs = λ f w. with_signs f (with_rows f needs w) w in
       let done : needs₂ ≡ both (frame_in b a (t + n)) (t + n) =
       y.here ∙ ap (λ l. with_signs frame l (v - 1)) x.here ∙ ap₂ both (place ∙ ap (frame_in b a) u) u in
@@ -266,7 +265,7 @@ needs-all {source} {g} {v} {needs} h r = record {
   here =
       let o = source.outline in
       let z : v - o.tables ≡ 0 = omega arith in
-      sym (ap (λ k. with_needs source.bytes source.shape o.tables k needs) z) ∙ r.here;
+      sym (ap (λ k. with_needs source.bytes source.relations o.tables k needs) z) ∙ r.here;
   covers = λ {F} G W.
       let sizes = goal-sizes g in
       let f = r.from G sizes.0 sizes.1 in
@@ -279,5 +278,5 @@ needs-all {source} {g} {v} {needs} h r = record {
       };
 }
   where
-    below : {F : File} {ends : List ℤ} → FileIn F source ends → (u : ℕ) (q : View) → query (length F.tables) F u ≡ some q → v ≤ u
+    below : {F : File} → FileIn F source → (u : ℕ) (q : View) → query (length F.tables) F u ≡ some q → v ≤ u
     below {F} G u q d = let x = query-split (length F.tables) F u q d in omega (arith, x.0, h, G.tables)

@@ -5,7 +5,6 @@ use mathlib.Core.List.{List}
 use mathlib.Core.Option.{some}
 use Prim.Native.Nat.{ℕ, ◌≤◌, ◌<◌}
 use native.Mathlib.Omega.{arith}
-use lib.IntN.{ℤ}
 use lib.ListN.{length, get_or, get_or-replicate}
 use Rattle.value.specs.Bag.{All}
 use Rattle.value.proofs.Decides.{by-test}
@@ -28,8 +27,8 @@ use Rattle.cases.proofs.FileLaws.{view-legal, before-length}
 
 -- ---- numbers of rows
 
-pub counts-are : {F : File} {source : Source} {ends : List ℤ} {counts counts' : List ℕ} → FileIn F source ends
-    → TablesCounted source.shape source.outline.tables counts counts' → 16 ≤ length counts → (t : ℕ) → t < length F.tables → get_or counts' t 0 ≡ (table_at F.tables t).rows
+pub counts-are : {F : File} {source : Source} {counts counts' : List ℕ} → FileIn F source
+    → TablesCounted source.relations source.outline.tables counts counts' → 16 ≤ length counts → (t : ℕ) → t < length F.tables → get_or counts' t 0 ≡ (table_at F.tables t).rows
 counts-are {F} G c s t h = c.counted t (omega (arith, G.tables)) (omega (arith, G.legal.relation_count)) ∙ rows_are G t h
 
 -- a table is no view

@@ -1,14 +1,18 @@
 -- Tests of the rows of a relation, one row more each time, and of two lists by index. Assumes nothing.
 use mathlib.Core.Path.{◌≡◌, refl, sym, ap, ap₂, ◌∙◌}
-use mathlib.Core.Bool.{Bool, true, false, ◌&&◌, ◌||◌, and-false, and-true, and_assoc, or-true}
+use mathlib.Core.Bool.{Bool, not, ◌&&◌, ◌||◌, not-not, and-true, and_assoc, or-false}
 use mathlib.Core.List.{List, [], ◌∷◌, ◌++◌}
 use Prim.Native.Nat.{ℕ, zero, suc, ◌+◌, ◌<◌}
-use native.Mathlib.Numerals.{add-one}
 use native.Mathlib.Omega.{arith}
-use lib.Dec.{eqb}
 use lib.IntN.{ℤ}
 use lib.ListN.{length, get_or}
-use borrow.Author.Tests.{eqb-true, eqb-false}
+use Rattle.std.proofs.Common.{int_eq}
+use Rattle.std.specs.List.{list_all, list_any, range_with_len}
+use Rattle.std.proofs.lemmas.List.Folds.{list_all-append, list_any-append}
+use Rattle.value.specs.Machine.{value_of}
+use Rattle.value.specs.Value.{value_test}
+use Rattle.value.specs.declared.datum.Datum.{Datum}
+use Rattle.value.proofs.Values.{datum_eq}
 use Rattle.value.proofs.Decides.{by-test, and-cross}
 use Rattle.meaning.specs.Lists.{all, any, pairwise, each}
 use Rattle.meaning.specs.Syntax.{Row}
@@ -16,6 +20,11 @@ use Rattle.meaning.proofs.ListSteps.{all_snoc}
 use Rattle.store.specs.Rows.{row_in, rows_in}
 use Rattle.store.proofs.RowLaws.{rows_none, rows_more}
 use Rattle.cases.specs.Validity.{all_below, any_below}
+
+-- ---- the code's != of values
+
+pub ne-same : (x y : Datum) (b : Bool) {r : Bool} → r ≡ not (int_eq x.n y.n) → r ≡ not b → value_test.same (value_of x) (value_of y) ≡ b
+ne-same x y b e f = sym (datum_eq x y) ∙ sym (not-not (int_eq x.n y.n)) ∙ ap not (sym e ∙ f) ∙ not-not b
 
 -- ---- one element more at the end
 
@@ -30,46 +39,26 @@ module _ {A : Type 0} where
   pairwise-snoc p (y ∷ l) x =
       ap₂ (λ (a b : Bool). a && b) (all_snoc (p y) l x) (pairwise-snoc p l x) ∙ and-cross (all (p y) l) (p y x) (pairwise p l) (all (λ z. p z x) l)
 
--- ---- numbers below another, one more each time
+-- ---- the numbers of a range, in the library's words
+
+range_snoc : (a n j : ℕ) → a + n ≡ j → range_with_len a (suc n) ≡ range_with_len a n ++ (j ∷ [])
+range_snoc a zero j e = ap (λ k. k ∷ []) (omega arith)
+range_snoc a (suc n) j e = ap (λ l. a ∷ l) (range_snoc (a + 1) n j (omega arith))
 
 module _ (p : ℕ → Bool) where
-  pub all-below-none : all_below p 0 ≡ true
+  pub all-in-range : (n : ℕ) → list_all p (range_with_len 0 n) ≡ all_below p n
   unfolding all_below
-  all-below-none = refl
+  all-in-range zero = refl
+  all-in-range (suc n) =
+      ap (list_all p) (range_snoc 0 n n (omega arith)) ∙ list_all-append p (range_with_len 0 n) (n ∷ [])
+      ∙ ap₂ (λ (a b : Bool). a && b) (all-in-range n) (and-true (p n))
 
-  pub all-below-next : (n : ℕ) → all_below p n ≡ true → p n ≡ true → all_below p (n + 1) ≡ true
-  unfolding all_below
-  all-below-next n e f = rw (add-one, e) f
-
-  pub all-below-whole : (n m : ℕ) → m ≡ n → all_below p m ≡ true → all_below p n ≡ true
-  all-below-whole n m e h = rw (← e) h
-
-  -- one that fails
-  pub all-below-stops : (n i : ℕ) → i < n → p i ≡ false → all_below p n ≡ false
-  unfolding all_below
-  all-below-stops zero i h f = absurd (omega arith)
-  all-below-stops (suc n) i h f = by-test (eqb i n)
-      (λ q. ap (λ b. all_below p n && b) (ap p (sym (eqb-true i n q)) ∙ f) ∙ and-false (all_below p n))
-      (λ q. rw (all-below-stops n i (omega (arith, eqb-false i n q)) f))
-
-  pub any-below-none : any_below p 0 ≡ false
+  pub any-in-range : (n : ℕ) → list_any p (range_with_len 0 n) ≡ any_below p n
   unfolding any_below
-  any-below-none = refl
-
-  pub any-below-next : (n : ℕ) → any_below p n ≡ false → p n ≡ false → any_below p (n + 1) ≡ false
-  unfolding any_below
-  any-below-next n e f = rw (add-one, e) f
-
-  pub any-below-whole : (n m : ℕ) → m ≡ n → any_below p m ≡ false → any_below p n ≡ false
-  any-below-whole n m e h = rw (← e) h
-
-  -- one that passes
-  pub any-below-found : (n i : ℕ) → i < n → p i ≡ true → any_below p n ≡ true
-  unfolding any_below
-  any-below-found zero i h f = absurd (omega arith)
-  any-below-found (suc n) i h f = by-test (eqb i n)
-      (λ q. ap (λ b. any_below p n || b) (ap p (sym (eqb-true i n q)) ∙ f) ∙ or-true (any_below p n))
-      (λ q. rw (any-below-found n i (omega (arith, eqb-false i n q)) f))
+  any-in-range zero = refl
+  any-in-range (suc n) =
+      ap (list_any p) (range_snoc 0 n n (omega arith)) ∙ list_any-append p (range_with_len 0 n) (n ∷ [])
+      ∙ ap₂ (λ (a b : Bool). a || b) (any-in-range n) (or-false (p n))
 
 -- ---- the rows of a relation
 
@@ -106,7 +95,8 @@ all-below-first q (suc n) = ap (λ b. b && q (suc n)) (all-below-first q n) ∙ 
 module _ {A B : Type 0} (p : A → B → Bool) (a : A) (b : B) where
   pub all-each : (q : ℕ → Bool) (xs : List A) (ys : List B) → length ys ≡ length xs → ((i : ℕ) → i < length xs → q i ≡ p (get_or xs i a) (get_or ys i b))
       → all_below q (length xs) ≡ each p xs ys
-  all-each q [] [] e h = all-below-none q
+  unfolding all_below
+  all-each q [] [] e h = refl
   all-each q [] (y ∷ ys) e h = absurd (omega arith)
   all-each q (x ∷ xs) [] e h = absurd (omega arith)
   all-each q (x ∷ xs) (y ∷ ys) e h =

@@ -28,10 +28,11 @@ use Rattle.meaning.proofs.Stacks.{get_elem-some}
 use Rattle.language.proofs.LegalAccepted.{legal-well_formed}
 use Rattle.language.specs.Legal.{Legal}
 use Rattle.language.specs.Written.{view_bytes}
-use Rattle.catalog.specs.Arrays.{width_at}
+use Rattle.catalog.specs.Relations.{width_at}
 use Rattle.catalog.specs.Frames.{frame_in}
 use Rattle.catalog.specs.FileIn.{Source, FileIn}
 use Rattle.catalog.proofs.FileLaws.{width_is}
+use Rattle.catalog.specs.declared.relation.Relation.{Relation}
 use Rattle.store.specs.Layout.{area}
 use Rattle.store.specs.Rows.{rows_in}
 use Rattle.views.proofs.Copying.{apart-rows}
@@ -50,12 +51,12 @@ view-there F v h l =
     let (q, e) = get_elem-some F.views (v - n) (omega arith) in
     (q, rw (le-ltb v n h) e)
 
-module _ {F : File} {g : Goal} {d : Database} {source : Source} {ends : List ℤ} {needs : Needs} (G : FileIn F source ends) (C : Covers F g needs) (shaped : Shaped F d) where
+module _ {F : File} {g : Goal} {d : Database} {source : Source} {needs : Needs} (G : FileIn F source) (C : Covers F g needs) (shaped : Shaped F d) where
   abbrev L : Legal F
   L = G.legal
 
-  abbrev shape : List ℕ
-  shape = source.shape
+  abbrev relations : List Relation
+  relations = source.relations
 
   abbrev n : ℕ
   n = length F.tables
@@ -110,9 +111,9 @@ module _ {F : File} {g : Goal} {d : Database} {source : Source} {ends : List ℤ
   -- ---- one turn
 
   module _ (v : ℕ) {memory : Memory} (K : Known F d needs memory v) (whole : area ≤ length memory.work) (counts-size : 16 ≤ length memory.counts)
-      (signs-size : 16 ≤ length memory.signs) (first : n ≤ v) (last : v < n + length F.views) {frame : List ℕ} (here : frame ≡ frame_in source.bytes shape v)
+      (signs-size : 16 ≤ length memory.signs) (first : n ≤ v) (last : v < n + length F.views) {frame : List ℕ} (here : frame ≡ frame_in source.bytes relations v)
       {signs' counts' : List ℕ} {work₁ work₂ : List ℤ} (S : SignNoted frame needs memory v signs' work₁)
-      (R : RowsNoted frame shape needs memory.counts work₁ v counts' work₂) where
+      (R : RowsNoted frame relations needs memory.counts work₁ v counts' work₂) where
     small : v < 16
     small = omega (arith, L.relation_count)
 
@@ -130,7 +131,7 @@ module _ {F : File} {g : Goal} {d : Database} {source : Source} {ends : List ℤ
     own-rows f =
         let (q, e) = view-there F v first last in
         let s = operands-kept q S.apart (operands-in v q e last K whole (C.rows v q e f)) in
-        let widths : (i : ℕ) → i < v → width_at shape i ≡ columns_of (take v (schemas F)) i =
+        let widths : (i : ℕ) → i < v → width_at relations i ≡ columns_of (take v (schemas F)) i =
         λ i h. width_is G i ∙ sym (ap (λ t. length t.ranges) (before-schema L v q e i h)) in
         ap (λ t. rows_in work₂ v (length t.ranges) (get_or counts' v 0)) (sym (own-schema L v q e))
         ∙ (R.noted f (omega (arith, small, counts-size))).rows q (own-frame q e) s widths ∙ sym (rows-view F d v q (in-d v e))

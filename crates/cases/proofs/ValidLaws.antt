@@ -20,7 +20,7 @@ unfolding valid
 valid-is F d sh = rw (true-dec (shaped-dec F d) sh)
 
 module _ {source : Source} {counts : List ℕ} {work : List ℤ} where
-  told : {k f : Bool} → k ≡ keys_in source.shape counts work source.outline.tables
+  told : {k f : Bool} → k ≡ keys_in source.relations counts work source.outline.tables
       → f ≡ foreign_keys_in source.bytes source.outline.foreign source.outline.keys counts work → {r : Bool} → r ≡ (k && f) → IsValid source counts work r
   unfolding valid_in
   told ek ef e = record {
@@ -32,9 +32,9 @@ module _ {source : Source} {counts : List ℕ} {work : List ℤ} where
         ∙ sym (valid-is F d sh);
   }
 
-  pub invalid-keys : {k : Bool} → k ≡ keys_in source.shape counts work source.outline.tables → k ≡ false → IsValid source counts work false
+  pub invalid-keys : {k : Bool} → k ≡ keys_in source.relations counts work source.outline.tables → k ≡ false → IsValid source counts work k
   invalid-keys ek z = told ek refl (rw z)
 
-  pub valid-both : {k f : Bool} → k ≡ keys_in source.shape counts work source.outline.tables → k ≡ true
+  pub valid-both : {k f : Bool} → k ≡ keys_in source.relations counts work source.outline.tables → k ≡ true
       → f ≡ foreign_keys_in source.bytes source.outline.foreign source.outline.keys counts work → IsValid source counts work f
   valid-both ek z ef = told ek ef (rw z)

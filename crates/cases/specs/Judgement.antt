@@ -9,6 +9,7 @@ use Rattle.meaning.specs.Decided.{negative, is_case}
 use Rattle.catalog.specs.FileIn.{Source, FileIn, goal_of}
 use Rattle.catalog.specs.declared.outline.Outline.{Outline}
 use Rattle.catalog.specs.declared.plan.Goal.{Goal as GoalHere}
+use Rattle.catalog.specs.declared.relation.Relation.{Relation}
 use Rattle.store.specs.Layout.{area, OnlyCells}
 use Rattle.store.specs.Rows.{rows_in}
 use Rattle.views.specs.Copies.{Apart}
@@ -38,11 +39,11 @@ pub record SignNoted (frame : List ℕ) (needs : Needs) (memory : Memory) (v : �
       → (r : Bool) × IsRefuted frame memory.counts memory.signs memory.work v r work' × (get_or signs' v 0 ≡ cond r 1 0)
 
 -- where its rows are needed they are worked out; what belongs to other relations stays
-pub record RowsNoted (frame shape : List ℕ) (needs : Needs) (counts : List ℕ) (work : List ℤ) (v : ℕ) (counts' : List ℕ) (work' : List ℤ) : Type 0 where
+pub record RowsNoted (frame : List ℕ) (relations : List Relation) (needs : Needs) (counts : List ℕ) (work : List ℤ) (v : ℕ) (counts' : List ℕ) (work' : List ℤ) : Type 0 where
   pub apart : Apart v work work'
   pub size : length counts' ≡ length counts
   pub others : (i : ℕ) → (i ≡ v → ⊥) → get_or counts' i 0 ≡ get_or counts i 0
-  pub noted : Needed needs v → v < length counts → ViewRows frame shape counts work v (get_or counts' v 0) work'
+  pub noted : Needed needs v → v < length counts → ViewRows frame relations counts work v (get_or counts' v 0) work'
 
 -- ---- all views
 
@@ -75,7 +76,7 @@ pub record OnlyViews (o : Outline) (memory memory' : Memory) : Type 0 where
 
 pub record Evaluates (source : Source) (needs : Needs) (memory memory' : Memory) : Type 0 where
   pub kept : OnlyViews source.outline memory memory'
-  pub known : {F : File} {g : Goal} {d : Database} {ends : List ℤ} → FileIn F source ends → Ready F g d needs memory
+  pub known : {F : File} {g : Goal} {d : Database} → FileIn F source → Ready F g d needs memory
       → Known F d needs memory' (length F.tables + length F.views)
 
 -- ---- the case
@@ -93,4 +94,4 @@ pub record IsCase (source : Source) (needs : Needs) (g : GoalHere) (memory : Mem
   pub early : judged_further source memory ≡ false → (r ≡ false) × (memory' ≡ memory)
   pub late : judged_further source memory ≡ true → Evaluates source needs memory memory' × IsWanted g memory'.counts memory'.signs r
   pub kept : OnlyViews source.outline memory memory'
-  pub case : {F : File} {d : Database} {ends : List ℤ} → FileIn F source ends → Ready F (goal_of g) d needs memory → r ≡ is_case F (goal_of g) d
+  pub case : {F : File} {d : Database} → FileIn F source → Ready F (goal_of g) d needs memory → r ≡ is_case F (goal_of g) d

@@ -1,5 +1,5 @@
 -- Relations that a goal depends on, by flags of their rows and signs. Assumes nothing: these are definitions.
-use Rattle.std.specs.Prelude.{◌≡◌, Bool, true, false, ◌&&◌, ◌||◌, cond, List, [], ◌∷◌, ◌++◌, ℕ, zero, suc, ◌+◌, ◌-◌, ◌≤◌, ◌<◌, eqb, ltb, leb, ℤ, length, get_or, set, replicate}
+use Rattle.std.specs.Prelude.{◌≡◌, Bool, true, false, ◌&&◌, ◌||◌, cond, List, [], ◌∷◌, ◌++◌, ℕ, zero, suc, ◌+◌, ◌-◌, ◌≤◌, ◌<◌, eqb, ltb, leb, length, get_or, set, replicate}
 use Rattle.std.proofs.Math.Option.{some}
 use Rattle.value.specs.Bag.{All}
 use Rattle.meaning.specs.Syntax.{View, Goal, File}
@@ -10,6 +10,7 @@ use Rattle.language.specs.Written.{view_bytes}
 use Rattle.catalog.specs.Frames.{frame_in, names_in}
 use Rattle.catalog.specs.FileIn.{Source, FileIn, goal_of}
 use Rattle.catalog.specs.declared.plan.Goal.{Goal as GoalHere}
+use Rattle.catalog.specs.declared.relation.Relation.{Relation}
 use Rattle.cases.specs.declared.needs.Needs.{Needs}
 
 -- relation i has a flag
@@ -110,10 +111,10 @@ with_signs frame needs v =
     (record { rows = needs.rows; signs = set_flags (names_in frame) needs.signs }) needs
 
 -- both, for n views from relation t on, from the last down
-unfoldable pub with_needs : List ℕ → List ℕ → ℕ → ℕ → Needs → Needs
-with_needs bytes shape t zero needs = needs
-with_needs bytes shape t (suc n) needs =
-    let frame = frame_in bytes shape (t + n) in with_needs bytes shape t n (with_signs frame (with_rows frame needs (t + n)) (t + n))
+unfoldable pub with_needs : List ℕ → List Relation → ℕ → ℕ → Needs → Needs
+with_needs bytes relations t zero needs = needs
+with_needs bytes relations t (suc n) needs =
+    let frame = frame_in bytes relations (t + n) in with_needs bytes relations t n (with_signs frame (with_rows frame needs (t + n)) (t + n))
 
 pub record NamesSet (is : List ℕ) (flags flags' : List Bool) : Type 0 where
   pub here : flags' ≡ set_flags is flags
@@ -141,5 +142,5 @@ pub record NeedsSigns (frame : List ℕ) (needs : Needs) (v : ℕ) (needs' : Nee
 
 -- which flags are set, of any bytes and arrays; that they are those that the goal depends on, of a file in memory
 pub record NeedsOf (source : Source) (g : GoalHere) (needs : Needs) : Type 0 where
-  pub here : let o = source.outline in needs ≡ with_needs source.bytes source.shape o.tables (o.relations - o.tables) (goal_needs g)
-  pub covers : {F : File} {ends : List ℤ} → FileIn F source ends → GoalIn F (goal_of g) → Covers F (goal_of g) needs
+  pub here : let o = source.outline in needs ≡ with_needs source.bytes source.relations o.tables (o.relations - o.tables) (goal_needs g)
+  pub covers : {F : File} → FileIn F source → GoalIn F (goal_of g) → Covers F (goal_of g) needs

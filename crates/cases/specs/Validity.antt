@@ -6,10 +6,11 @@ use Rattle.meaning.specs.Syntax.{File, Database}
 use Rattle.meaning.specs.Valid.{Shaped}
 use Rattle.meaning.specs.Decided.{differ, valid}
 use Rattle.language.specs.Frames.{mask_bits}
-use Rattle.catalog.specs.Arrays.{width_at, mask_at}
+use Rattle.catalog.specs.Relations.{width_at, mask_at}
 use Rattle.catalog.specs.FileIn.{Source, FileIn}
 use Rattle.catalog.specs.Frames.{frame_at, key_parts_in}
 use Rattle.catalog.specs.declared.frames.KeyParts.{KeyParts}
+use Rattle.catalog.specs.declared.relation.Relation.{Relation}
 use Rattle.store.specs.Layout.{cell_in}
 use Rattle.store.specs.Rows.{row_in, rows_in}
 use Rattle.cases.specs.TablesIn.{TablesIn}
@@ -41,14 +42,14 @@ unfoldable pub key_in : List ℤ → ℕ → ℕ → ℕ → ℕ → Bool
 key_in work table rows width mask = eqb mask 0 || pairwise (differ (mask_bits width mask)) (rows_in work table width rows)
 
 -- table t, with its rows, columns and mask as the arrays say; its key, and that of each table
-abbrev pub table_in : List ℕ → List ℕ → ℕ → Table
-table_in shape counts t = record { number = t; rows = get_or counts t 0; width = width_at shape t; mask = mask_at shape t }
+abbrev pub table_in : List Relation → List ℕ → ℕ → Table
+table_in relations counts t = record { number = t; rows = get_or counts t 0; width = width_at relations t; mask = mask_at relations t }
 
-unfoldable pub key_at : List ℕ → List ℕ → List ℤ → ℕ → Bool
-key_at shape counts work t = key_in work t (get_or counts t 0) (width_at shape t) (mask_at shape t)
+unfoldable pub key_at : List Relation → List ℕ → List ℤ → ℕ → Bool
+key_at relations counts work t = key_in work t (get_or counts t 0) (width_at relations t) (mask_at relations t)
 
-abbrev pub keys_in : List ℕ → List ℕ → List ℤ → ℕ → Bool
-keys_in shape counts work tables = all_below (key_at shape counts work) tables
+abbrev pub keys_in : List Relation → List ℕ → List ℤ → ℕ → Bool
+keys_in relations counts work tables = all_below (key_at relations counts work) tables
 
 -- ---- foreign keys: on any bytes, 0 past the end of a frame
 
@@ -85,11 +86,11 @@ foreign_keys_in bytes at keys counts work =
 
 unfoldable pub valid_in : Source → List ℕ → List ℤ → Bool
 valid_in source counts work =
-    keys_in source.shape counts work source.outline.tables
+    keys_in source.relations counts work source.outline.tables
     && foreign_keys_in source.bytes source.outline.foreign source.outline.keys counts work
 
 -- on any arrays, and what it says of a file and a database
 pub record IsValid (source : Source) (counts : List ℕ) (work : List ℤ) (r : Bool) : Type 0 where
   pub here : r ≡ valid_in source counts work
-  pub is-valid : {F : File} {d : Database} {ends : List ℤ} → FileIn F source ends → Shaped F d → TablesIn F d counts work
+  pub is-valid : {F : File} {d : Database} → FileIn F source → Shaped F d → TablesIn F d counts work
       → r ≡ valid F d

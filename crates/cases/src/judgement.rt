@@ -3,8 +3,10 @@ ghost use Rattle.catalog.specs.FileIn.{source_in};
 ghost use Rattle.cases.specs.Judgement.{memory_from, SignNoted, RowsNoted, Evaluates, IsWanted, IsCase};
 
 use super::needs::Needs;
-use super::{relation, validity};
+use super::relation::Framed;
+use super::validity;
 use catalog::plan::Goal;
+use catalog::relation::Relation;
 use catalog::source::Source;
 use value::boolean;
 
@@ -16,18 +18,35 @@ fn note_sign(frame: &[u8], needs: &Needs, counts: &[u8], signs: &mut [u8], work:
     if !slice::item_at(&needs.signs, v as usize, false) {
         return;
     }
-    let sign = relation::is_refuted(frame, counts, signs, work, v);
+    let framed = Framed {
+        frame,
+        counts,
+        view: v,
+    };
+    let sign = framed.is_refuted(signs, work);
     slice::put_item(signs, v as usize, boolean::one_if(sign));
 }
 
 // The rows of view v, if they are needed, and their number.
-fn note_rows(frame: &[u8], shape: &[u8], needs: &Needs, counts: &mut [u8], work: &mut [i32], v: u8)
-    ensures { RowsNoted frame.now shape.now needs.now counts.old work.old v counts.new work.new }
+fn note_rows(
+    frame: &[u8],
+    relations: &[Relation],
+    needs: &Needs,
+    counts: &mut [u8],
+    work: &mut [i32],
+    v: u8,
+)
+    ensures { RowsNoted frame.now relations.now needs.now counts.old work.old v counts.new work.new }
 {
     if !slice::item_at(&needs.rows, v as usize, false) {
         return;
     }
-    let n = relation::view_rows(frame, shape, counts, work, v);
+    let framed = Framed {
+        frame,
+        counts,
+        view: v,
+    };
+    let n = framed.view_rows(relations, work);
     slice::put_item(counts, v as usize, n);
 }
 
@@ -51,7 +70,7 @@ pub fn evaluate(
     for v in outline.tables..outline.relations {
         let frame = source.frame(v);
         note_sign(frame, needs, counts, signs, work, v);
-        note_rows(frame, source.shape, needs, counts, work, v);
+        note_rows(frame, source.relations, needs, counts, work, v);
     }
 }
 

@@ -96,6 +96,7 @@ fn set_named(frame: &[u8], flags: &mut [bool], v: u8)
 
 // With the rows that view v needs: those of the relations that its frame names, if its own rows are needed or it is no set view and its sign
 // is asked.
+// The test is one of the frame's number, as it is in `with_rows`: a number of no kind, from 8 on, counts as one of a set view.
 fn need_rows(frame: &[u8], needs: Needs, v: u8) -> Needs
     ensures { NeedsRows frame.now needs v result }
 {

@@ -5,7 +5,6 @@ use mathlib.Core.List.{List, [], ◌∷◌, ◌++◌, map-append}
 use Prim.Native.Nat.{ℕ, zero, suc, ◌+◌, ◌≤◌, ◌<◌}
 use native.Mathlib.Omega.{arith}
 use lib.Dec.{eqb}
-use lib.IntN.{ℤ}
 use lib.ListN.{length, get_or, set, get_or-eq_default, length-map, length-set}
 use lib.Seq.{ext_get_or, get_or-set_same, get_or-set_other, set_out}
 use borrow.Author.Tests.{eqb-true, eqb-false, lt-ltb}
@@ -14,9 +13,10 @@ use Rattle.meaning.specs.Bounds.{opened_ranges}
 use Rattle.meaning.proofs.Listed.{get_d-listed, length-listed}
 use Rattle.meaning.proofs.ListSteps.{map_at}
 use Rattle.language.specs.Reading.{opened_item}
-use Rattle.catalog.specs.Arrays.{width_at, ranges_in}
+use Rattle.catalog.specs.Relations.{width_at, ranges_in}
 use Rattle.catalog.specs.Items.{bytes_at, relations_in, items_of, widths_in, six_with, opened_items, open_in, open_ranges_in}
 use Rattle.catalog.specs.declared.items.Items.{Items}
+use Rattle.catalog.specs.declared.relation.Relation.{Relation}
 
 pub bytes-length : (bytes : List ℕ) (at n : ℕ) → length (bytes_at bytes at n) ≡ n
 unfolding bytes_at
@@ -53,8 +53,8 @@ module _ (items : Items) where
   unfolding relations_in
   items-number = bytes-length items.relations 0 items.number
 
-  pub widths-number : (shape : List ℕ) → items.number ≡ length (widths_in shape (relations_in items))
-  widths-number shape = sym (length-map (relations_in items) (width_at shape) ∙ items-number)
+  pub widths-number : (rs : List Relation) → items.number ≡ length (widths_in rs (relations_in items))
+  widths-number rs = sym (length-map (relations_in items) (width_at rs) ∙ items-number)
 
   module _ (i : ℕ) where
     pub relation-past : items.number ≤ i → get_or (relations_in items) i 0 ≡ 0
@@ -64,11 +64,11 @@ module _ (items : Items) where
     unfolding relations_in
     relation-there h = bytes-there items.relations 0 items.number i h ∙ ap (λ k. get_or items.relations k 0) (omega arith)
 
-    pub width-past : (shape : List ℕ) → items.number ≤ i → get_or (widths_in shape (relations_in items)) i 0 ≡ 0
-    width-past shape h = get_or-eq_default (widths_in shape (relations_in items)) 0 (rw (← widths-number shape) h)
+    pub width-past : (rs : List Relation) → items.number ≤ i → get_or (widths_in rs (relations_in items)) i 0 ≡ 0
+    width-past rs h = get_or-eq_default (widths_in rs (relations_in items)) 0 (rw (← widths-number rs) h)
 
-    pub width-there : (shape : List ℕ) → i < items.number → get_or (widths_in shape (relations_in items)) i 0 ≡ width_at shape (get_or (relations_in items) i 0)
-    width-there shape h = map_at (width_at shape) (relations_in items) i 0 0 (rw items-number h)
+    pub width-there : (rs : List Relation) → i < items.number → get_or (widths_in rs (relations_in items)) i 0 ≡ width_at rs (get_or (relations_in items) i 0)
+    width-there rs h = map_at (width_at rs) (relations_in items) i 0 0 (rw items-number h)
 
 -- ---- one more item
 
@@ -115,16 +115,16 @@ opened-last items {i} {j} e m h = rw (m, e) (opened-more items j (rw items-numbe
 
 -- ---- what is open, with one more item
 
-module _ (shape : List ℕ) (n : ℕ) (fs : List ℕ) where
-  pub few-items : length (open_in shape n fs).widths < 6 → length fs < 6
+module _ (rs : List Relation) (n : ℕ) (fs : List ℕ) where
+  pub few-items : length (open_in rs n fs).widths < 6 → length fs < 6
   few-items h = rw length-map at h
 
-  pub relation-before : {i : ℕ} → i < length (open_in shape n fs).relations → i < n
+  pub relation-before : {i : ℕ} → i < length (open_in rs n fs).relations → i < n
   relation-before h = rw length-listed at h
 
   module _ {i : ℕ} (h : i < n) where
-    pub opened-open : opened_item (open_in shape n fs) i ≡ open_in shape n (fs ++ (i ∷ []))
-    opened-open = rw (get_d-listed (width_at shape) n i 0 h, map-append)
+    pub opened-open : opened_item (open_in rs n fs) i ≡ open_in rs n (fs ++ (i ∷ []))
+    opened-open = rw (get_d-listed (width_at rs) n i 0 h, map-append)
 
-    pub opened-ranges : (ends : List ℤ) (R : ℕ) → opened_ranges (open_ranges_in shape ends n fs R) i ≡ open_ranges_in shape ends n (fs ++ (i ∷ [])) R
-    opened-ranges ends R = rw (get_d-listed (ranges_in shape ends) n i [] h, map-append)
+    pub opened-ranges : (R : ℕ) → opened_ranges (open_ranges_in rs n fs R) i ≡ open_ranges_in rs n (fs ++ (i ∷ [])) R
+    opened-ranges R = rw (get_d-listed (ranges_in rs) n i [] h, map-append)

@@ -1,5 +1,5 @@
--- Laws of the arrays and of the frames in them.
-pub mod ArrayLaws
+-- Laws of the relations and of the frames in memory.
+pub mod RelationLaws
 pub mod TableLaws
 pub mod FrameLaws
 pub mod ItemLaws
@@ -7,3 +7,4 @@ pub mod ViewParts
 pub mod WrittenParts
 pub mod PartsRead
 pub mod FileLaws
+pub mod KindNumbers

@@ -1,4 +1,4 @@
--- The tables of a file by the arrays: whether some table has a row, and the numbers of rows. Assumes nothing.
+-- The tables of a file in memory: whether some table has a row, and the numbers of rows. Assumes nothing.
 use mathlib.Core.Path.{◌≡◌, refl, sym, ap, ◌∙◌}
 use mathlib.Core.Bool.{true, false, or-true, true≢false}
 use mathlib.Core.List.{List, [], ◌∷◌, map}
@@ -12,7 +12,8 @@ use Rattle.meaning.specs.Bounds.{Schema, no_schema, schema, schemas, table_schem
 use Rattle.meaning.proofs.ListSteps.{map_at}
 use Rattle.meaning.proofs.Stacks.{by-lt, stack-keeps}
 use Rattle.language.specs.Legal.{table_at}
-use Rattle.catalog.specs.Arrays.{bound_at}
+use Rattle.catalog.specs.Relations.{bound_at}
+use Rattle.catalog.specs.declared.relation.Relation.{Relation}
 use Rattle.catalog.specs.FileIn.{SomeRow, TablesCounted}
 
 -- ---- tables with rows
@@ -37,26 +38,26 @@ none-at [] h = refl
 none-at (t ∷ ts) h = rw (h 0 (omega arith), none-at ts (λ i k. h (suc i) (omega arith)))
 
 -- no table before table n has a row
-pub record Bare (shape : List ℕ) (n : ℕ) : Type 0 where
-  pub bare : (i : ℕ) → i < n → bound_at shape i ≡ 0
+pub record Bare (rs : List Relation) (n : ℕ) : Type 0 where
+  pub bare : (i : ℕ) → i < n → bound_at rs i ≡ 0
 
-pub bare-none : (shape : List ℕ) → Bare shape 0
-bare-none shape = record { bare = λ i h. absurd (omega arith) }
+pub bare-none : (rs : List Relation) → Bare rs 0
+bare-none rs = record { bare = λ i h. absurd (omega arith) }
 
-pub bare-more : (shape : List ℕ) (n b : ℕ) → Bare shape n → b ≡ bound_at shape n → b ≤ 0 → Bare shape (n + 1)
-bare-more shape n b h e z = record {
+pub bare-more : (rs : List Relation) (n b : ℕ) → Bare rs n → b ≡ bound_at rs n → b ≤ 0 → Bare rs (n + 1)
+bare-more rs n b h e z = record {
   bare = λ i k. by-lt i n (λ t l. h.bare i l) (λ t l. let q : i ≡ n = omega arith in rw q (omega (arith, e, z)));
 }
 
-pub filled-some : (shape : List ℕ) (tables n b : ℕ) → n < tables → b ≡ bound_at shape n → 0 < b → SomeRow shape tables true
-filled-some shape tables n b h e k = record {
+pub filled-some : (rs : List Relation) (tables n b : ℕ) → n < tables → b ≡ bound_at rs n → 0 < b → SomeRow rs tables true
+filled-some rs tables n b h e k = record {
   has = λ _. (n, h, omega arith);
   has-none = λ q. absurd (true≢false q);
   some-row = λ F l s. sym (some_at F.tables n (omega (arith, h, l)) (omega (arith, k, e, s n, bound-is F n (omega (arith, h, l)))));
 }
 
-pub filled_none : (shape : List ℕ) (tables n : ℕ) → tables ≤ n → Bare shape n → SomeRow shape tables false
-filled_none shape tables n h b = record {
+pub filled_none : (rs : List Relation) (tables n : ℕ) → tables ≤ n → Bare rs n → SomeRow rs tables false
+filled_none rs tables n h b = record {
   has = λ q. absurd (true≢false (sym q));
   has-none = λ _ t k. b.bare t (omega arith);
   some-row = λ F l s. sym (none-at F.tables (λ i k. sym (bound-is F i k) ∙ sym (s i) ∙ b.bare i (omega (arith, h, l, k))));
@@ -64,12 +65,12 @@ filled_none shape tables n h b = record {
 
 -- ---- numbers of rows
 
-pub counted_none : (shape counts : List ℕ) → TablesCounted shape 0 counts counts
-counted_none shape counts = record { size = refl; counted = λ t h l. absurd (omega arith); others = λ t h. refl }
+pub counted_none : (rs : List Relation) (counts : List ℕ) → TablesCounted rs 0 counts counts
+counted_none rs counts = record { size = refl; counted = λ t h l. absurd (omega arith); others = λ t h. refl }
 
-pub counted-more : {shape counts before after : List ℕ} {n b : ℕ} → TablesCounted shape n counts before → b ≡ bound_at shape n → after ≡ set before n b
-    → TablesCounted shape (n + 1) counts after
-counted-more {shape} {counts} {before} {after} {n} {b} c e q = record {
+pub counted-more : {rs : List Relation} {counts before after : List ℕ} {n b : ℕ} → TablesCounted rs n counts before → b ≡ bound_at rs n → after ≡ set before n b
+    → TablesCounted rs (n + 1) counts after
+counted-more {rs} {counts} {before} {after} {n} {b} c e q = record {
   size = rw q (length-set before n b ∙ c.size);
   counted = λ t h l. rw q (by-lt t n
       (λ _ k. get_or-set_other before n t b 0 (λ z. omega arith) ∙ c.counted t k l)
@@ -77,5 +78,5 @@ counted-more {shape} {counts} {before} {after} {n} {b} c e q = record {
   others = λ t h. rw q (get_or-set_other before n t b 0 (λ z. omega arith) ∙ c.others t (omega arith));
 }
 
-pub counted-all : {shape counts after : List ℕ} {tables n : ℕ} → TablesCounted shape n counts after → n ≡ tables → TablesCounted shape tables counts after
+pub counted-all : {rs : List Relation} {counts after : List ℕ} {tables n : ℕ} → TablesCounted rs n counts after → n ≡ tables → TablesCounted rs tables counts after
 counted-all c e = rw e at c

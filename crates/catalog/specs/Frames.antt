@@ -3,7 +3,8 @@
 use Rattle.std.specs.Prelude.{Bool, cond, List, [], ◌∷◌, ℕ, ◌+◌, eqb, ltb, get_or, take, drop}
 use Rattle.meaning.specs.Syntax.{View}
 use Rattle.language.specs.Written.{set_kind}
-use Rattle.catalog.specs.Arrays.{start_at}
+use Rattle.catalog.specs.Relations.{start_at}
+use Rattle.catalog.specs.declared.relation.Relation.{Relation}
 use Rattle.catalog.specs.declared.frames.TableParts.{TableParts}
 use Rattle.catalog.specs.declared.frames.KeyParts.{KeyParts}
 use Rattle.catalog.specs.declared.frames.SetParts.{SetParts}
@@ -14,9 +15,9 @@ use Rattle.catalog.specs.declared.plan.Goal.{Goal}
 unfoldable pub frame_at : List ℕ → ℕ → List ℕ
 frame_at bytes at = take (get_or bytes at 0) (drop (at + 1) bytes)
 
--- the frame of relation r; `shape` has the place of each
-abbrev pub frame_in : List ℕ → List ℕ → ℕ → List ℕ
-frame_in bytes shape r = frame_at bytes (start_at shape r)
+-- the frame of relation r
+abbrev pub frame_in : List ℕ → List Relation → ℕ → List ℕ
+frame_in bytes rs r = frame_at bytes (start_at rs r)
 
 -- ---- the parts of a table's frame, of a foreign key's, of the goal's
 

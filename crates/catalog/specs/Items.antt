@@ -1,11 +1,12 @@
 -- The from items that are open where an expression stands, and what is open by them. Assumes nothing: these are definitions, and they
 -- compute.
-use Rattle.std.specs.Prelude.{cond, List, [], ◌∷◌, map, ℕ, zero, suc, ◌+◌, min, eqb, ltb, ℤ, length, get_or}
+use Rattle.std.specs.Prelude.{cond, List, [], ◌∷◌, map, ℕ, zero, suc, ◌+◌, min, eqb, ltb, length, get_or}
 use Rattle.meaning.specs.Bounds.{OpenRanges}
 use Rattle.meaning.specs.Lists.{listed}
 use Rattle.language.specs.Reading.{Open}
-use Rattle.catalog.specs.Arrays.{width_at, ranges_in, items_in}
+use Rattle.catalog.specs.Relations.{width_at, ranges_in, items_in}
 use Rattle.catalog.specs.declared.items.Items.{Items}
+use Rattle.catalog.specs.declared.relation.Relation.{Relation}
 
 -- n bytes from a place on, 0 past the end
 unfoldable pub bytes_at : List ℕ → ℕ → ℕ → List ℕ
@@ -31,11 +32,11 @@ opened_items items r = cond (ltb items.number 6) (record { relations = six_with 
 -- ---- what is open over a from list, n relations being before the view
 
 -- the number of columns of each item
-abbrev pub widths_in : List ℕ → List ℕ → List ℕ
-widths_in shape fs = map (width_at shape) fs
+abbrev pub widths_in : List Relation → List ℕ → List ℕ
+widths_in rs fs = map (width_at rs) fs
 
-abbrev pub open_in : List ℕ → ℕ → List ℕ → Open
-open_in shape n fs = record { widths = widths_in shape fs; relations = listed (width_at shape) n }
+abbrev pub open_in : List Relation → ℕ → List ℕ → Open
+open_in rs n fs = record { widths = widths_in rs fs; relations = listed (width_at rs) n }
 
-abbrev pub open_ranges_in : List ℕ → List ℤ → ℕ → List ℕ → ℕ → OpenRanges
-open_ranges_in shape ends n fs R = record { ranges = items_in shape ends fs; bound = R; relations = listed (ranges_in shape ends) n }
+abbrev pub open_ranges_in : List Relation → ℕ → List ℕ → ℕ → OpenRanges
+open_ranges_in rs n fs R = record { ranges = items_in rs fs; bound = R; relations = listed (ranges_in rs) n }

@@ -1,9 +1,12 @@
 // Frames in the packed bytes of a file, and the parts of each kind of frame.
 ghost use Rattle.std.specs.Prelude.{◌≡◌, ◌+◌, ◌*◌, min, length, get_or, take, drop};
+ghost use Rattle.catalog.specs.Kinds.{groups_rows};
 ghost use Rattle.catalog.specs.Frames.{frame_at, frame_in, table_parts_in, key_parts_in, froms_in, names_in, parts_after, set_parts_in, goal_in};
 
-use super::arrays;
+use super::kind::ViewKind;
 use super::plan::Goal;
+use super::relation;
+use super::relation::Relation;
 use slice::item_at;
 
 // Where the columns of a table's frame begin.
@@ -87,10 +90,10 @@ pub fn frame_at(bytes: &[u8], at: usize) -> &[u8]
 
 // The frame of a relation.
 // Refused: the first relation's; the second relation's.
-pub fn frame_of<'a>(bytes: &'a [u8], shape: &[u8], r: u8) -> &'a [u8]
-    ensures { result.now ≡ frame_in bytes.now shape.now r }
+pub fn frame_of<'a>(bytes: &'a [u8], relations: &[Relation], r: u8) -> &'a [u8]
+    ensures { result.now ≡ frame_in bytes.now relations.now r }
 {
-    frame_at(bytes, arrays::start_of(shape, r))
+    frame_at(bytes, relation::start_of(relations, r))
 }
 
 // The parts of a table's frame.
@@ -161,20 +164,20 @@ pub fn names(frame: &[u8]) -> &[u8]
 
 // The parts of an aggregate view's frame, or of a basic view's.
 // Refused: a grouping count of basic views; the where condition one byte too far.
-pub fn parts_after(frame: &[u8], grouped: bool) -> Parts
-    ensures { result ≡ parts_after grouped (get_or frame.now 1 0) frame.now }
+pub fn parts_after(frame: &[u8], kind: ViewKind) -> Parts
+    ensures { result ≡ parts_after (groups_rows kind) (get_or frame.now 1 0) frame.now }
 {
     let items = item_at(frame, 1, 0) as usize;
-    if grouped {
-        return Parts {
+    match kind {
+        ViewKind::Basic => Parts {
+            groups: 0,
+            width: item_at(frame, items + 2, 0),
+            body: items + 3,
+        },
+        ViewKind::Aggregate => Parts {
             groups: item_at(frame, items + 2, 0),
             width: item_at(frame, items + 3, 0),
             body: items + 4,
-        };
-    }
-    Parts {
-        groups: 0,
-        width: item_at(frame, items + 2, 0),
-        body: items + 3,
+        },
     }
 }

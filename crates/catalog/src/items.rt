@@ -3,7 +3,8 @@ ghost use Rattle.std.specs.Prelude.{◌≡◌, min, get_or};
 ghost use Rattle.catalog.specs.Frames.{froms_in};
 ghost use Rattle.catalog.specs.Items.{bytes_at, relations_in, items_of, widths_in, six_with, opened_items};
 
-use crate::{arrays, frames};
+use crate::relation::Relation;
+use crate::{frames, relation};
 use slice::item_at;
 
 // Of the six places the first `number` count.
@@ -50,29 +51,6 @@ pub fn from_items(frame: &[u8]) -> Items
     }
 }
 
-// The relation of an item, 0 past the last.
-// Refused: that of the first item; that of the second item.
-pub fn relation(items: Items, i: u8) -> u8
-    ensures { result ≡ get_or (relations_in items) i 0 }
-{
-    if items.number <= i {
-        return 0;
-    }
-    let relations = items.relations;
-    item_at(&relations, i as usize, 0)
-}
-
-// The number of columns of an item, 0 past the last.
-// Refused: that of the first item; that of the second item.
-pub fn width(items: Items, shape: &[u8], i: u8) -> u8
-    ensures { result ≡ get_or (widths_in shape.now (relations_in items)) i 0 }
-{
-    if items.number <= i {
-        return 0;
-    }
-    arrays::width_of(shape, relation(items, i))
-}
-
 // Six bytes with another at place n.
 // Refused: 0 for the byte; the place for the byte.
 pub fn six_with(bytes: [u8; 6], n: u8, x: u8) -> [u8; 6]
@@ -85,19 +63,43 @@ pub fn six_with(bytes: [u8; 6], n: u8, x: u8) -> [u8; 6]
     six
 }
 
-// The items with one more, the row of a relation; six stay as they are.
-// Refused: five stay as they are; the number as it was.
-pub fn opened(items: Items, relation: u8) -> Items
-    ensures { result ≡ opened_items items relation }
-{
-    let number = items.number;
-    if 6 <= number {
-        return items;
+impl Items {
+    // The relation of an item, 0 past the last.
+    // Refused: that of the first item; that of the second item.
+    pub fn relation(self, i: u8) -> u8
+        ensures { result ≡ get_or (relations_in self) i 0 }
+    {
+        if self.number <= i {
+            return 0;
+        }
+        let relations = self.relations;
+        item_at(&relations, i as usize, 0)
     }
-    let old = items.relations;
-    let relations = six_with(old, number, relation);
-    Items {
-        relations: relations,
-        number: number + 1,
+
+    // The number of columns of an item, 0 past the last.
+    // Refused: that of the first item; that of the second item.
+    pub fn width(self, relations: &[Relation], i: u8) -> u8
+        ensures { result ≡ get_or (widths_in relations.now (relations_in self)) i 0 }
+    {
+        if self.number <= i {
+            return 0;
+        }
+        relation::width_of(relations, self.relation(i))
+    }
+
+    // The items with one more, the row of a relation; six stay as they are.
+    // Refused: five stay as they are; the number as it was.
+    pub fn opened(self, relation: u8) -> Items
+        ensures { result ≡ opened_items self relation }
+    {
+        let number = self.number;
+        if 6 <= number {
+            return self;
+        }
+        let old = self.relations;
+        Items {
+            relations: six_with(old, number, relation),
+            number: number + 1,
+        }
     }
 }

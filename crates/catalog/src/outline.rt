@@ -1,7 +1,8 @@
-// What the evaluation of candidates needs of a file beside its arrays, worked out once.
+// What the evaluation of candidates needs of a file beside its relations, worked out once.
 ghost use Rattle.catalog.specs.FileIn.{SomeRow, TablesCounted};
 
-use super::arrays;
+use super::relation;
+use super::relation::Relation;
 
 // Counts; `foreign` is the place of the first foreign key's frame, and `filled` says that some table has a row.
 #[derive(Clone, Copy)]
@@ -15,28 +16,23 @@ pub struct Outline {
 
 // Whether some table has a row.
 // Refused: always; whether the first table has one.
-pub fn some_row(shape: &[u8], tables: u8) -> bool
-    ensures { SomeRow shape.now tables result }
+pub fn some_row(relations: &[Relation], tables: u8) -> bool
+    ensures { SomeRow relations.now tables result }
 {
-    let mut t: u8 = 0;
-    while t < tables {
-        if 0 < arrays::bound_of(shape, t) {
+    for t in 0..tables {
+        if 0 < relation::bound_of(relations, t) {
             return true;
         }
-        t += 1;
     }
     false
 }
 
 // The tables' numbers of rows, each at its relation's place.
 // Refused: the first table's number for each; the number of tables for each.
-pub fn count_tables(shape: &[u8], tables: u8, counts: &mut [u8])
-    ensures { TablesCounted shape.now tables counts.old counts.new }
+pub fn count_tables(relations: &[Relation], tables: u8, counts: &mut [u8])
+    ensures { TablesCounted relations.now tables counts.old counts.new }
 {
-    let mut t: u8 = 0;
-    while t < tables {
-        let rows = arrays::bound_of(shape, t);
-        slice::put_item(counts, t as usize, rows);
-        t += 1;
+    for t in 0..tables {
+        slice::put_item(counts, t as usize, relation::bound_of(relations, t));
     }
 }

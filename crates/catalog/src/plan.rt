@@ -1,5 +1,6 @@
 // A checked file.
 use super::outline::Outline;
+use super::relation::Relation;
 use text;
 
 #[derive(Clone, Copy)]
@@ -12,8 +13,7 @@ pub struct Goal {
 #[derive(Drop)]
 pub struct Plan {
     pub bytes: [u8; text::ROOM],
-    pub shape: [u8; 128],
-    pub ends: [i32; 256],
+    pub relations: [Relation; 16],
     pub outline: Outline,
     pub goal: Goal,
     pub candidates: u64,

@@ -1,10 +1,9 @@
--- The number of candidates: capping commutes with later factors, and the arrays give the columns of the cells. Assumes nothing.
+-- The number of candidates: capping commutes with later factors, and the relations give the columns of the cells. Assumes nothing.
 use mathlib.Core.Path.{◌≡◌, refl, sym, ap, ap₂, ◌∙◌}
 use mathlib.Core.List.{List, [], ◌∷◌, ◌++◌}
-use Prim.Native.Nat.{ℕ, zero, suc, ◌+◌, ◌*◌, ◌-◌, ◌≤◌, ◌<◌, min}
+use Prim.Native.Nat.{ℕ, suc, ◌+◌, ◌*◌, ◌-◌, ◌≤◌, ◌<◌, min}
 use native.Mathlib.Nat.{mul_assoc, mul-pos, mul-le-mul_right}
 use native.Mathlib.Omega.{arith}
-use lib.IntN.{ℤ}
 use lib.ListN.{length, get_or}
 use lib.Dec.{leb}
 use mathlib.Core.Bool.{false}
@@ -18,9 +17,10 @@ use Rattle.meaning.specs.Candidates.{sizes_product, cell_columns}
 use Rattle.meaning.proofs.Stacks.{by-lt}
 use Rattle.language.specs.Legal.{table_at}
 use Rattle.language.specs.Check.{candidate_limit}
-use Rattle.catalog.specs.Arrays.{no_column, column_at}
+use Rattle.catalog.specs.Relations.{no_column, column_at}
 use Rattle.catalog.specs.FileIn.{TablesKnown}
 use Rattle.checker.specs.CandidateCount.{too_many, capped_product, within_limit, columns_from, table_cells, cells_from, CandidatesOf}
+use Rattle.catalog.specs.declared.relation.Relation.{Relation}
 
 -- ---- capped products
 
@@ -51,38 +51,38 @@ capped-product n (c ∷ cs) h =
     ∙ cap-later (n * size c) (sizes_product cs) (product-positive cs)
     ∙ ap (λ k. min k too_many) (mul_assoc n (size c) (sizes_product cs))
 
--- ---- tables in the arrays
+-- ---- tables in the relations
 
-module _ (shape : List ℕ) (ends : List ℤ) where
-  columns-back : (t c : ℕ) (cs : List Column) → ((i : ℕ) → i < length cs → column_at shape ends t (c + i) ≡ get_or cs i no_column)
-      → columns_from shape ends t c (length cs) ≡ cs
+module _ (relations : List Relation) where
+  columns-back : (t c : ℕ) (cs : List Column) → ((i : ℕ) → i < length cs → column_at relations t (c + i) ≡ get_or cs i no_column)
+      → columns_from relations t c (length cs) ≡ cs
   unfolding columns_from
   columns-back t c [] h = refl
   columns-back t c (x ∷ cs) h =
       let e : c ≡ c + 0 = omega arith in
-      ap₂ ◌∷◌ (ap (column_at shape ends t) e ∙ h 0 (omega arith))
-      (columns-back t (c + 1) cs (λ i l. let n : c + 1 + i ≡ c + suc i = omega arith in ap (column_at shape ends t) n ∙ h (suc i) (omega arith)))
+      ap₂ ◌∷◌ (ap (column_at relations t) e ∙ h 0 (omega arith))
+      (columns-back t (c + 1) cs (λ i l. let n : c + 1 + i ≡ c + suc i = omega arith in ap (column_at relations t) n ∙ h (suc i) (omega arith)))
 
-  cells-back : (t : ℕ) (ts : List Table) → ((i : ℕ) → i < length ts → table_cells shape ends (t + i) ≡ copies (table_at ts i).rows (table_at ts i).columns)
-      → cells_from shape ends t (length ts) ≡ cell_columns ts
+  cells-back : (t : ℕ) (ts : List Table) → ((i : ℕ) → i < length ts → table_cells relations (t + i) ≡ copies (table_at ts i).rows (table_at ts i).columns)
+      → cells_from relations t (length ts) ≡ cell_columns ts
   unfolding cells_from
   cells-back t [] h = refl
   cells-back t (x ∷ ts) h =
       let e : t ≡ t + 0 = omega arith in
-      ap₂ ◌++◌ (ap (table_cells shape ends) e ∙ h 0 (omega arith))
-      (cells-back (t + 1) ts (λ i l. let n : t + 1 + i ≡ t + suc i = omega arith in ap (table_cells shape ends) n ∙ h (suc i) (omega arith)))
+      ap₂ ◌++◌ (ap (table_cells relations) e ∙ h 0 (omega arith))
+      (cells-back (t + 1) ts (λ i l. let n : t + 1 + i ≡ t + suc i = omega arith in ap (table_cells relations) n ∙ h (suc i) (omega arith)))
 
-  table-back : {ts : List Table} → TablesKnown ts shape ends → (t : ℕ) → t < length ts → table_cells shape ends t ≡ copies (table_at ts t).rows (table_at ts t).columns
+  table-back : {ts : List Table} → TablesKnown ts relations → (t : ℕ) → t < length ts → table_cells relations t ≡ copies (table_at ts t).rows (table_at ts t).columns
   unfolding table_cells
   table-back {ts} T t h = rw (T.rows t h, T.width t h)
-      (ap (copies (table_at ts t).rows) (columns-back t 0 (table_at ts t).columns (λ i l. let z : 0 + i ≡ i = omega arith in ap (column_at shape ends t) z ∙ T.column t i h l)))
+      (ap (copies (table_at ts t).rows) (columns-back t 0 (table_at ts t).columns (λ i l. let z : 0 + i ≡ i = omega arith in ap (column_at relations t) z ∙ T.column t i h l)))
 
-  pub candidates-counted : (tables p : ℕ) (r : Option ℕ) → p ≡ capped_product 1 (cells_from shape ends 0 tables) → r ≡ within_limit p → CandidatesOf shape ends tables r
+  pub candidates-counted : (tables p : ℕ) (r : Option ℕ) → p ≡ capped_product 1 (cells_from relations 0 tables) → r ≡ within_limit p → CandidatesOf relations tables r
   unfolding within_limit
   candidates-counted tables p r e q = record {
     here = q ∙ ap within_limit e;
     counted = λ ts T n.
-        let c : cells_from shape ends 0 tables ≡ cell_columns ts = rw n (cells-back 0 ts (λ i l. let z : 0 + i ≡ i = omega arith in ap (table_cells shape ends) z ∙ table-back T i l)) in
+        let c : cells_from relations 0 tables ≡ cell_columns ts = rw n (cells-back 0 ts (λ i l. let z : 0 + i ≡ i = omega arith in ap (table_cells relations) z ∙ table-back T i l)) in
         let N = sizes_product (cell_columns ts) in
         let m : p ≡ min N too_many = e ∙ ap (capped_product 1) c ∙ capped-product 1 (cell_columns ts) (omega arith) ∙ ap (λ k. min k too_many) (omega arith) in
         q ∙ by-test (leb N candidate_limit)
@@ -107,21 +107,21 @@ table-turn xs n k p q h e = rw (e, left-of n k h) (sym (capped-append p xs (copi
 pub all_left : (n : ℕ) → n - 0 ≡ n
 all_left n = omega arith
 
-module _ (shape : List ℕ) (ends : List ℤ) where
-  pub no-columns : (t c n p : ℕ) → n ≤ c → capped_product p (columns_from shape ends t c (n - c)) ≡ p
+module _ (relations : List Relation) where
+  pub no-columns : (t c n p : ℕ) → n ≤ c → capped_product p (columns_from relations t c (n - c)) ≡ p
   unfolding capped_product columns_from
   no-columns t c n p h = let e : n - c ≡ 0 = omega arith in rw e
 
-  pub row-turn : (t c n p q : ℕ) → c < n → q ≡ min (p * size (column_at shape ends t c)) too_many
-      → capped_product q (columns_from shape ends t (c + 1) (n - (c + 1))) ≡ capped_product p (columns_from shape ends t c (n - c))
+  pub row-turn : (t c n p q : ℕ) → c < n → q ≡ min (p * size (column_at relations t c)) too_many
+      → capped_product q (columns_from relations t (c + 1) (n - (c + 1))) ≡ capped_product p (columns_from relations t c (n - c))
   unfolding capped_product columns_from
   row-turn t c n p q h e = rw (e, left-of n c h)
 
-  pub no-tables : (t n p : ℕ) → n ≤ t → capped_product p (cells_from shape ends t (n - t)) ≡ p
+  pub no-tables : (t n p : ℕ) → n ≤ t → capped_product p (cells_from relations t (n - t)) ≡ p
   unfolding capped_product cells_from
   no-tables t n p h = let e : n - t ≡ 0 = omega arith in rw e
 
-  pub file-turn : (t n p q : ℕ) → t < n → q ≡ capped_product p (table_cells shape ends t)
-      → capped_product q (cells_from shape ends (t + 1) (n - (t + 1))) ≡ capped_product p (cells_from shape ends t (n - t))
+  pub file-turn : (t n p q : ℕ) → t < n → q ≡ capped_product p (table_cells relations t)
+      → capped_product q (cells_from relations (t + 1) (n - (t + 1))) ≡ capped_product p (cells_from relations t (n - t))
   unfolding cells_from
-  file-turn t n p q h e = rw (e, left-of n t h) (sym (capped-append p (table_cells shape ends t) (cells_from shape ends (t + 1) (n - (t + 1)))))
+  file-turn t n p q h e = rw (e, left-of n t h) (sym (capped-append p (table_cells relations t) (cells_from relations (t + 1) (n - (t + 1)))))

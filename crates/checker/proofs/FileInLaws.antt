@@ -2,9 +2,9 @@
 use mathlib.Core.Path.{◌≡◌, refl, sym, ap, ◌∙◌}
 use mathlib.Core.List.{List, [], ◌∷◌, ◌++◌, map, append_assoc}
 use mathlib.Core.Option.{some, none-ne-some}
-use Prim.Native.Nat.{ℕ, zero, suc, ◌+◌, ◌-◌, ◌≤◌, ◌<◌}
+use Prim.Native.Nat.{ℕ, zero, suc, ◌+◌, ◌-◌, ◌≤◌}
 use native.Mathlib.Omega.{arith}
-use lib.ListN.{length, get_elem?, drop, length-append, length-map, length-drop}
+use lib.ListN.{length, get_elem?, drop, length-append, length-map}
 use lib.Seq.{drop_at, drop-append-add}
 use Rattle.text.specs.Answers.{pack}
 use Rattle.meaning.specs.Syntax.{View, File}
@@ -73,7 +73,7 @@ module _ (F : File) where
 
   module _ (bytes tail : List ℕ) (whole : bytes ≡ pack (file_frames F) ++ tail) where
     pub view-there : (v : ℕ) (q : View) → query (length F.tables) F v ≡ some q
-        → let at = start_from bytes 0 (frame_number (length F.tables) (length F.keys) v) in (frame_at bytes at ≡ view_bytes q) × (at < length bytes)
+        → frame_at bytes (start_from bytes 0 (frame_number (length F.tables) (length F.keys) v)) ≡ view_bytes q
     view-there v q e =
         let (more, d, l) = view-frames v q e in
         let n = frame_number (length F.tables) (length F.keys) v in
@@ -81,7 +81,7 @@ module _ (F : File) where
         let here : drop (start_from bytes 0 n) bytes ≡ length f ∷ f ++ (pack more ++ tail) =
         start_back bytes tail n 0 (file_frames F) whole l ∙ ap (λ (l : List ℕ). l ++ tail) (ap pack d ∙ pack-cons f more)
         ∙ ap (λ (l : List ℕ). length f ∷ l) (append_assoc f (pack more) tail) in
-        ((frame_here bytes (start_from bytes 0 n) f (pack more ++ tail) here).0, omega (arith, ap length here, length-drop (start_from bytes 0 n) bytes))
+        (frame_here bytes (start_from bytes 0 n) f (pack more ++ tail) here).0
 
     pub keys-there : (rest : List ℕ) × (drop (start_from bytes 0 (length F.tables)) bytes ≡ pack (map key_bytes F.keys) ++ rest)
     keys-there = (

@@ -17,7 +17,7 @@ use Rattle.value.proofs.Places.{first-behind}
 use Rattle.meaning.specs.Syntax.{Pair, SetOperation, View}
 use Rattle.language.specs.Reading.{done, ◌>>=◌, byte_if, Read}
 use Rattle.meaning.specs.Bounds.{schema}
-use Rattle.catalog.specs.Arrays.{width_at, bound_at, mask_at}
+use Rattle.catalog.specs.Relations.{relation_at, width_at, bound_at, mask_at}
 use Rattle.language.specs.Draft.{Draft, width, relation_count, schemas_of, Item}
 use Rattle.language.specs.Frames.{ending, repeated, column_field, pair_field, table_frame, key_frame, set_frame, goal_frame, whole_fault, no_table}
 use Rattle.checker.specs.Faults.{fault_of, fault_at, first, under, within, from_under}
@@ -25,10 +25,11 @@ use Rattle.checker.specs.Catalogued.{Catalogued, body_fault}
 use Rattle.checker.specs.FixedFaults.{columns_fault, pairs_fault, pairing, set_rules, KeysFit}
 use Rattle.checker.proofs.FieldLaws.{byte-then}
 use Rattle.language.proofs.Turns.{width-table}
-use Rattle.catalog.proofs.ArrayLaws.{length-ranges}
+use Rattle.catalog.proofs.RelationLaws.{length-ranges}
 use Rattle.checker.proofs.SizedLaws.{sized-times, sized-column, sized-pair}
 use Rattle.checker.proofs.PairLaws.{parents-read, pairing-exact}
 use Rattle.checker.proofs.BodyLaws.{first-where, first-zero, byte-passes, body-start, body-byte, body-sized, body_end}
+use Rattle.catalog.specs.declared.relation.Relation.{Relation}
 
 five : ◌≡◌ {A = ℕ} 5 0 → ⊥
 five e = omega arith
@@ -118,16 +119,16 @@ module _ (d : Draft) (frame : List ℕ) where
 
 -- ---- 05 union, 06 intersection
 
-module _ {d : Draft} {shape : List ℕ} {ends : List ℤ} (known : Catalogued d shape ends) where
+module _ {d : Draft} {relations : List Relation} (known : Catalogued d relations) where
   -- a relation's number of columns and its row bound
-  pub width-known : (i : ℕ) → width d i ≡ width_at shape i
-  width-known i = sym (ap (λ s. length s.ranges) (known.schemas i)) ∙ length-ranges ends (16 * i) (width_at shape i)
+  pub width-known : (i : ℕ) → width d i ≡ width_at relations i
+  width-known i = sym (ap (λ s. length s.ranges) (known.schemas i)) ∙ length-ranges (relation_at relations i)
 
-  pub bound-known : (i : ℕ) → (schema (schemas_of d) i).bound ≡ bound_at shape i
+  pub bound-known : (i : ℕ) → (schema (schemas_of d) i).bound ≡ bound_at relations i
   bound-known i = sym (ap (λ s. s.bound) (known.schemas i))
 
   set-whole : (op : SetOperation) (i j : ℕ)
-      → whole_fault d (Item.view (View.set op i j)) ≡ set_rules op shape i j
+      → whole_fault d (Item.view (View.set op i j)) ≡ set_rules op relations i j
   unfolding set_rules
   set-whole op i j = rw (width-known i, width-known j, bound-known i, bound-known j)
 
@@ -137,7 +138,7 @@ module _ {d : Draft} {shape : List ℕ} {ends : List ℤ} (known : Catalogued d 
         ≡ first (fault_at frame 1 (byte_if 6 (from_under (length d.tables) (relation_count d))))
         (first (fault_at frame 2 (byte_if 6 (from_under (length d.tables) (relation_count d))))
         (first (fault_at frame 3 (ending {A = ℕ} 3))
-        (set_rules op shape i j)))
+        (set_rules op relations i j)))
     set-law op =
         body-start d frame (set_frame d op)
         ∙ body-byte d frame 1 6 (from_under (length d.tables) (relation_count d)) _ six
@@ -150,7 +151,7 @@ module _ {d : Draft} {shape : List ℕ} {ends : List ℤ} (known : Catalogued d 
     key-whole : KeysFit d → let c = get_or frame 1 0 in let p = get_or frame 2 0 in let n = get_or frame 3 0 in
         fault_at frame 2 (byte_if 6 (under (length d.tables))) ≡ 0
         → (ps : List Pair) (left : List ℕ) → repeated n (pair_field (width d c) (width d p)) (drop 4 frame) ≡ Read.ok ps left
-        → whole_fault d (Item.key (record { child = c; parent = p; pairs = ps })) ≡ pairing frame n 0 (width_at shape p) (mask_at shape p)
+        → whole_fault d (Item.key (record { child = c; parent = p; pairs = ps })) ≡ pairing frame n 0 (width_at relations p) (mask_at relations p)
     key-whole fit z ps left e =
         let c = get_or frame 1 0 in
         let p = get_or frame 2 0 in
@@ -164,9 +165,9 @@ module _ {d : Draft} {shape : List ℕ} {ends : List ℤ} (known : Catalogued d 
         ≡ first (fault_at frame 1 (byte_if 6 (under (length d.tables))))
         (first (fault_at frame 2 (byte_if 6 (under (length d.tables))))
         (first (fault_at frame 3 (byte_if 5 (within 1 4)))
-        (first (pairs_fault frame (width_at shape c) (width_at shape p) 4 n)
+        (first (pairs_fault frame (width_at relations c) (width_at relations p) 4 n)
         (first (fault_at frame (4 + n * 2) (ending (4 + n * 2)))
-        (pairing frame n 0 (width_at shape p) (mask_at shape p))))))
+        (pairing frame n 0 (width_at relations p) (mask_at relations p))))))
     unfolding pairs_fault
     key-law fit =
         let n = get_or frame 3 0 in

@@ -2,16 +2,15 @@
 use mathlib.Core.Path.{◌≡◌, refl, sym, ap, subst, ◌∙◌}
 use mathlib.Core.Bool.{Bool, true, false, cond}
 use mathlib.Core.List.{List, []}
-use Prim.Native.Nat.{ℕ, ◌≤◌, ◌<◌, min}
+use Prim.Native.Nat.{ℕ, ◌≤◌, ◌<◌}
 use native.Mathlib.Omega.{arith}
 use lib.Dec.{ltb, leb, eqb}
-use lib.IntN.{ℤ}
-use lib.ListN.{length, drop}
+use lib.ListN.{length, set, drop}
 use borrow.Author.Tests.{ltb-true, leb-true, eqb-true}
 use Rattle.value.proofs.Decides.{by-test, and_parts}
 use Rattle.meaning.specs.Syntax.{SetOperation, View}
 use Rattle.language.specs.Reading.{Read, Reader}
-use Rattle.meaning.specs.Bounds.{set_bound, view_schema, same_width, aggregates_fit, bounded, ranges_fit}
+use Rattle.meaning.specs.Bounds.{view_schema, same_width, aggregates_fit, bounded, ranges_fit}
 use Rattle.language.specs.Draft.{Draft, Item, added, relation_count, schemas_of, is_view, stage_of, in_order, has_room}
 use Rattle.language.specs.Written.{set_kind}
 use Rattle.language.specs.Frames.{frame, whole_fault, set_frame}
@@ -19,30 +18,29 @@ use Rattle.language.specs.Check.{whole_checked, read_checked}
 use Rattle.checker.specs.Faults.{fault_at, fault_of, fault_told}
 use Rattle.checker.specs.Catalogued.{Catalogued, checked_fault, body_fault}
 use Rattle.checker.specs.FixedFaults.{TableFault, KeyFault, SetFault, GoalFault}
-use Rattle.checker.specs.Entries.{column_in, joined_with, TableEntered, SetEntered}
-use Rattle.catalog.specs.Arrays.{width_at, bound_at, put_shape}
+use Rattle.checker.specs.Entries.{TableOf, SetOf}
 use Rattle.checker.specs.ViewFaults.{own_kind, own_frame, BytesFault}
 use Rattle.checker.specs.ViewRules.{Rules}
 use Rattle.checker.specs.Standing.{Counts, DraftIn, Turned, with_table, with_key, with_view, with_goal}
 use Rattle.catalog.specs.FileIn.{goal_of}
-use Rattle.catalog.specs.Frames.{table_parts_in, set_parts_in, goal_in}
+use Rattle.catalog.specs.Frames.{set_parts_in, goal_in}
 use Rattle.catalog.specs.declared.frames.SetParts.{SetParts}
 use Rattle.catalog.specs.declared.plan.Goal.{Goal as GoalHere}
-use Rattle.catalog.proofs.ArrayLaws.{puts-outside}
 use Rattle.catalog.proofs.PartsRead.{SetRead, set-read, goal-read}
 use Rattle.checker.specs.declared.state.Progress.{Progress}
 use Rattle.std.proofs.Common.{Result, Ok, Err}
 use Rattle.text.specs.Refusals.{number_of}
 use Rattle.text.specs.declared.refusal.Reason.{Reason}
 use Rattle.checker.proofs.FaultLaws.{number-some}
-use Rattle.checker.specs.declared.view_rules.Ruled.{Ruled}
-use Rattle.checker.proofs.EntryLaws.{key-entered, goal-entered}
+use Rattle.checker.proofs.EntryLaws.{view-entered, key-entered, goal-entered}
+use Rattle.checker.proofs.TableLaws.{table-added}
 use Rattle.language.proofs.FairReaders.{Good, Nil}
 use Rattle.language.proofs.FairFrames.{Well, fair-frame}
-use Rattle.checker.proofs.SetLaws.{hulls-outside}
+use Rattle.checker.proofs.SetLaws.{set-added}
 use Rattle.checker.proofs.StandingLaws.{counts-table, counts-key, counts-view, counts-goal}
-use Rattle.checker.proofs.StepLaws.{Found, only_none, only-stored, only-ranges, turned-refused, turned-done}
+use Rattle.checker.proofs.StepLaws.{Found, only_none, only-stored, turned-refused, turned-done}
 use Rattle.language.proofs.Turns.{item_stage, Turn, turn, stage-known}
+use Rattle.catalog.specs.declared.relation.Relation.{Relation}
 
 -- ---- an item that is read
 
@@ -57,46 +55,44 @@ item-stage d k bs i o reads = stage-read d k ((fair-frame d k (stage-known d k o
 item-turn : (d : Draft) (k : ℕ) (bs : List ℕ) (i : Item) → in_order d k ≡ true → has_room d k ≡ true → frame d k bs ≡ Read.ok i [] → Turn d i
 item-turn d k bs i o r reads = turn d i (stage_of k) (item-stage d k bs i o reads) o r
 
-key-found : {f : List ℕ} {s : Progress} {shape : List ℕ} {ends : List ℤ} {n : ℕ} → KeyFault f shape s.tables n → Found 2 f s shape ends n
-key-found {ends = ends} k = λ d h o r. k.at d ends h.catalogued h.fits h.counts.tables
+key-found : {f : List ℕ} {s : Progress} {relations : List Relation} {n : ℕ} → KeyFault f relations s.tables n → Found 2 f s relations n
+key-found k = λ d h o r. k.at d h.catalogued h.fits h.counts.tables
 
 -- an answer r that refuses by the reason e
-module _ {f : List ℕ} {s : Progress} {shape : List ℕ} {ends : List ℤ} (r : Result Progress Reason) (e : Reason) (p : r ≡ Err e) where
-  pub table-refused : TableFault f (number_of e) → Turned 1 f s shape ends shape ends r
-  table-refused t = turned-refused r e p only_none (λ d h o q. t.at d)
+module _ {f : List ℕ} {s : Progress} {relations : List Relation} (r : Result Progress Reason) (e : Reason) (p : r ≡ Err e) where
+  pub table-refused : TableFault f (number_of e) → Turned 1 f s relations relations r
+  table-refused t = turned-refused r e p (λ d h o q. t.at d)
 
-  pub key-refused : KeyFault f shape s.tables (number_of e) → Turned 2 f s shape ends shape ends r
-  key-refused k = turned-refused r e p only_none (key-found k)
+  pub key-refused : KeyFault f relations s.tables (number_of e) → Turned 2 f s relations relations r
+  key-refused k = turned-refused r e p (key-found k)
 
-  pub goal-refused : GoalFault f s.tables s.relations (number_of e) → Turned 7 f s shape ends shape ends r
-  goal-refused t = turned-refused r e p only_none (λ d h o q. t.at d h.counts.tables h.counts.relations)
+  pub goal-refused : GoalFault f s.tables s.relations (number_of e) → Turned 7 f s relations relations r
+  goal-refused t = turned-refused r e p (λ d h o q. t.at d h.counts.tables h.counts.relations)
 
-module _ {f : List ℕ} {s : Progress} {shape : List ℕ} {ends : List ℤ} {s' : Progress} where
+module _ {f : List ℕ} {s : Progress} {relations : List Relation} {s' : Progress} where
   -- ---- 01
 
-  pub table_done : {shape' : List ℕ} {ends' : List ℤ} → TableFault f 0 → TableEntered f s.relations shape ends shape' ends' → s' ≡ with_table s
-      → Turned 1 f s shape ends shape' ends' (Ok s')
-  table_done {shape'} {ends'} t e w = turned-done s'
-      (let w = (table_parts_in f).width in only-stored w 1 w (table_parts_in f).rows (table_parts_in f).mask e.shape_is (rw e.ends-are (puts-outside (column_in f) ends s.relations w w (omega arith))))
+  pub table_done : (x : Relation) → TableFault f 0 → TableOf f x → s' ≡ with_table s → Turned 1 f s relations (set relations s.relations x) (Ok s')
+  table_done x t e w = turned-done s' (only-stored s.relations x relations)
       (λ d h o r. t.at d)
       (λ d i h o r reads whole. go d i h (item-stage d 1 (drop 1 f) i o reads) (item-turn d 1 (drop 1 f) i o r reads) reads)
     where
-      go : (d : Draft) (i : Item) → DraftIn d s shape ends → 1 ≡ item_stage i → Turn d i → frame d 1 (drop 1 f) ≡ Read.ok i []
-          → Counts (added d i) s' × Catalogued (added d i) shape' ends'
+      go : (d : Draft) (i : Item) → DraftIn d s relations → 1 ≡ item_stage i → Turn d i → frame d 1 (drop 1 f) ≡ Read.ok i []
+          → Counts (added d i) s' × Catalogued (added d i) (set relations s.relations x)
       go d (Item.table t) h p turn reads =
           let none : length d.views ≡ 0 = ap length turn.views in
-          (rw w (counts-table h.counts t turn), e.entered d t h.catalogued (omega (arith, h.counts.relations)) (omega (arith, h.counts.relations, turn.room)) turn.views reads)
+          (rw w (counts-table h.counts t turn), table-added f s.relations x relations e d t h.catalogued (omega (arith, h.counts.relations)) (omega (arith, h.counts.relations, turn.room)) turn.views reads)
       go d (Item.key k) h p turn reads = absurd (omega arith)
       go d (Item.view q) h p turn reads = absurd (omega arith)
       go d (Item.goal g) h p turn reads = absurd (omega arith)
 
   -- ---- 02
 
-  pub key-done : KeyFault f shape s.tables 0 → s' ≡ with_key s → Turned 2 f s shape ends shape ends (Ok s')
+  pub key-done : KeyFault f relations s.tables 0 → s' ≡ with_key s → Turned 2 f s relations relations (Ok s')
   key-done k w = turned-done s' only_none (key-found k)
       (λ d i h o r reads whole. go d i h (item-stage d 2 (drop 1 f) i o reads) (item-turn d 2 (drop 1 f) i o r reads))
     where
-      go : (d : Draft) (i : Item) → DraftIn d s shape ends → 2 ≡ item_stage i → Turn d i → Counts (added d i) s' × Catalogued (added d i) shape ends
+      go : (d : Draft) (i : Item) → DraftIn d s relations → 2 ≡ item_stage i → Turn d i → Counts (added d i) s' × Catalogued (added d i) relations
       go d (Item.table t) h p turn = absurd (omega arith)
       go d (Item.key k) h p turn = (rw w (counts-key h.counts k turn), key-entered h.catalogued k)
       go d (Item.view q) h p turn = absurd (omega arith)
@@ -130,55 +126,53 @@ stage-own : (grouped : Bool) → stage_of (own_kind grouped) ≡ 3
 stage-own true = refl
 stage-own false = refl
 
-module _ (grouped : Bool) {f : List ℕ} {s : Progress} {shape : List ℕ} {ends : List ℤ} where
-  pub view-refused : (r : Result Progress Reason) (e : Reason) → r ≡ Err e → BytesFault grouped f shape s.relations (number_of e)
-      → Turned (own_kind grouped) f s shape ends shape ends r
+module _ (grouped : Bool) {f : List ℕ} {s : Progress} {relations : List Relation} where
+  pub view-refused : (r : Result Progress Reason) (e : Reason) → r ≡ Err e → BytesFault grouped f relations s.relations (number_of e)
+      → Turned (own_kind grouped) f s relations relations r
   unfolding body_fault fault_at
-  view-refused r e p b = turned-refused r e p only_none
+  view-refused r e p b = turned-refused r e p
       (λ d h o q.
       let y : number_of e ≡ fault_of (frame d (own_kind grouped) (drop 1 f)) =
-      b.at d ends h.catalogued h.counts.relations ∙ ap (λ (m : Reader Item). fault_of (m (drop 1 f))) (sym (frame-own grouped d)) in
+      b.at d h.catalogued h.counts.relations ∙ ap (λ (m : Reader Item). fault_of (m (drop 1 f))) (sym (frame-own grouped d)) in
       y ∙ sym (body_refused d (frame d (own_kind grouped) (drop 1 f)) (λ z. number-some e (y ∙ z))))
 
   -- the view that is read
-  view-read : BytesFault grouped f shape s.relations 0 → (d : Draft) → DraftIn d s shape ends → in_order d (own_kind grouped) ≡ true
+  view-read : BytesFault grouped f relations s.relations 0 → (d : Draft) → DraftIn d s relations → in_order d (own_kind grouped) ≡ true
       → (q : View) × (frame d (own_kind grouped) (drop 1 f) ≡ Read.ok (Item.view q) [])
   unfolding fault_at
   view-read b d h o =
-      let e : fault_of (frame d (own_kind grouped) (drop 1 f)) ≡ 0 = ap (λ (m : Reader Item). fault_of (m (drop 1 f))) (frame-own grouped d) ∙ sym (b.at d ends h.catalogued h.counts.relations) in
+      let e : fault_of (frame d (own_kind grouped) (drop 1 f)) ≡ 0 = ap (λ (m : Reader Item). fault_of (m (drop 1 f))) (frame-own grouped d) ∙ sym (b.at d h.catalogued h.counts.relations) in
       let (i, reads, p) = read-well ((fair-frame d (own_kind grouped) (stage-known d (own_kind grouped) o)).good (drop 1 f)) e in
       let (q, v) = as-view i (sym (stage-own grouped) ∙ p.0) in
       (q, reads ∙ ap (λ (x : Item). Read.ok x []) v)
 
   -- what the rules answer is the fault of its body
-  view-found : {ends' : List ℤ} (a : Result Ruled Reason) → BytesFault grouped f shape s.relations 0 → Rules grouped f s.relations shape ends ends' a
-      → Found (own_kind grouped) f s shape ends (fault_told a)
+  view-found : (a : Result Relation Reason) → BytesFault grouped f relations s.relations 0 → Rules grouped f relations a
+      → Found (own_kind grouped) f s relations (fault_told a)
   unfolding body_fault
   view-found a b rules d h o r =
       let (q, reads) = view-read b d h o in
       let there : own_frame grouped d (drop 1 f) ≡ Read.ok (Item.view q) [] = ap (λ (m : Reader Item). m (drop 1 f)) (sym (frame-own grouped d)) ∙ reads in
-      let room = (item-turn d (own_kind grouped) (drop 1 f) (Item.view q) o r reads).room in
-      rules.fault d q h.catalogued h.counts.relations (omega (arith, h.counts.relations)) there
-      ∙ sym (ap (λ (m : Read Item). checked_fault (read_checked d m)) reads ∙ body-whole d (Item.view q))
+      rules.fault d q h.catalogued there ∙ sym (ap (λ (m : Read Item). checked_fault (read_checked d m)) reads ∙ body-whole d (Item.view q))
 
   -- a rule that is broken
-  pub view-broken : {ends' : List ℤ} (r : Result Progress Reason) (e : Reason) → r ≡ Err e → BytesFault grouped f shape s.relations 0
-      → Rules grouped f s.relations shape ends ends' (Err e) → Turned (own_kind grouped) f s shape ends shape ends' r
-  view-broken r e p b rules = turned-refused r e p (only-ranges _ rules.outside) (view-found (Err e) b rules)
+  pub view-broken : (r : Result Progress Reason) (e : Reason) → r ≡ Err e → BytesFault grouped f relations s.relations 0
+      → Rules grouped f relations (Err e) → Turned (own_kind grouped) f s relations relations r
+  view-broken r e p b rules = turned-refused r e p (view-found (Err e) b rules)
 
-  pub view-done : {s' : Progress} {shape' : List ℕ} {ends' : List ℤ} (x : Ruled) → BytesFault grouped f shape s.relations 0
-      → Rules grouped f s.relations shape ends ends' (Ok x) → shape' ≡ put_shape shape s.relations 2 x.width x.bound 0 → s' ≡ with_view s
-      → Turned (own_kind grouped) f s shape ends shape' ends' (Ok s')
-  view-done {s'} {shape'} {ends'} x b rules p w = turned-done s' (only-stored _ 2 x.width x.bound 0 p rules.outside) (view-found (Ok x) b rules)
+  pub view-done : {s' : Progress} (x : Relation) → BytesFault grouped f relations s.relations 0 → Rules grouped f relations (Ok x) → s' ≡ with_view s
+      → Turned (own_kind grouped) f s relations (set relations s.relations x) (Ok s')
+  view-done {s'} x b rules w = turned-done s' (only-stored s.relations x relations) (view-found (Ok x) b rules)
       (λ d i h o r reads whole. go d i h (sym (stage-own grouped) ∙ item-stage d (own_kind grouped) (drop 1 f) i o reads) (item-turn d (own_kind grouped) (drop 1 f) i o r reads)
       (ap (λ (m : Reader Item). m (drop 1 f)) (sym (frame-own grouped d)) ∙ reads) whole)
     where
-      go : (d : Draft) (i : Item) → DraftIn d s shape ends → 3 ≡ item_stage i → Turn d i → own_frame grouped d (drop 1 f) ≡ Read.ok i [] → whole_fault d i ≡ 0
-          → Counts (added d i) s' × Catalogued (added d i) shape' ends'
+      go : (d : Draft) (i : Item) → DraftIn d s relations → 3 ≡ item_stage i → Turn d i → own_frame grouped d (drop 1 f) ≡ Read.ok i [] → whole_fault d i ≡ 0
+          → Counts (added d i) s' × Catalogued (added d i) (set relations s.relations x)
       go d (Item.table t) h e turn reads whole = absurd (omega arith)
       go d (Item.key k) h e turn reads whole = absurd (omega arith)
       go d (Item.view q) h e turn reads whole =
-          (rw w (counts-view h.counts q turn), rw p (rules.entered d q x refl h.catalogued h.counts.relations (omega (arith, h.counts.relations, turn.room)) reads whole))
+          let (few, same) = rules.told d q x refl h.catalogued reads whole in
+          (rw w (counts-view h.counts q turn), view-entered d q s.relations x relations h.catalogued h.counts.relations (omega (arith, h.counts.relations, turn.room)) few same)
       go d (Item.goal g) h e turn reads whole = absurd (omega arith)
 
 -- ---- 05, 06
@@ -201,46 +195,42 @@ set-frame : (op : SetOperation) (d : Draft) → frame d (set_kind op) ≡ set_fr
 set-frame SetOperation.union d = refl
 set-frame SetOperation.intersection d = refl
 
-module _ (op : SetOperation) {f : List ℕ} {s : Progress} {shape : List ℕ} {ends : List ℤ} where
-  set_found : {n : ℕ} → SetFault f shape s.tables s.relations op n → Found (set_kind op) f s shape ends n
-  set_found t = λ d h o r. t.at d ends h.catalogued h.counts.tables h.counts.relations ∙ ap (λ (m : Reader Item). body_fault d m f) (sym (set-frame op d))
+module _ (op : SetOperation) {f : List ℕ} {s : Progress} {relations : List Relation} where
+  set_found : {n : ℕ} → SetFault f relations s.tables s.relations op n → Found (set_kind op) f s relations n
+  set_found t = λ d h o r. t.at d h.catalogued h.counts.tables h.counts.relations ∙ ap (λ (m : Reader Item). body_fault d m f) (sym (set-frame op d))
 
-  pub set-refused : (r : Result Progress Reason) (e : Reason) → r ≡ Err e → SetFault f shape s.tables s.relations op (number_of e)
-      → Turned (set_kind op) f s shape ends shape ends r
-  set-refused r e p t = turned-refused r e p only_none (set_found t)
+  pub set-refused : (r : Result Progress Reason) (e : Reason) → r ≡ Err e → SetFault f relations s.tables s.relations op (number_of e)
+      → Turned (set_kind op) f s relations relations r
+  set-refused r e p t = turned-refused r e p (set_found t)
 
-  pub set-done : {s' : Progress} {shape' : List ℕ} {ends' : List ℤ} {p : SetParts} → SetFault f shape s.tables s.relations op 0 → p ≡ set_parts_in f
-      → SetEntered op p.left p.right s.relations shape ends shape' ends' → s' ≡ with_view s → Turned (set_kind op) f s shape ends shape' ends' (Ok s')
-  set-done {s'} {shape'} {ends'} {p} t pe e w = turned-done s'
-      (let other = joined_with op p.left p.right in
-      let w = min (width_at shape p.left) (width_at shape other) in
-      only-stored w 2 w (min (set_bound op (bound_at shape p.left) (bound_at shape p.right)) 255) 0 e.shape_is (rw e.ends-are (hulls-outside shape ends p.left other s.relations w w (omega arith))))
-      (set_found t)
+  pub set-done : {s' : Progress} {p : SetParts} (x : Relation) → SetFault f relations s.tables s.relations op 0 → p ≡ set_parts_in f
+      → SetOf op p.left p.right relations x → s' ≡ with_view s → Turned (set_kind op) f s relations (set relations s.relations x) (Ok s')
+  set-done {s'} {p} x t pe e w = turned-done s' (only-stored s.relations x relations) (set_found t)
       (λ d i h o r reads whole. go d i h (set-read d op f i (ap (λ (m : Reader Item). m (drop 1 f)) (sym (set-frame op d)) ∙ reads))
       (item-turn d (set_kind op) (drop 1 f) i o r reads) whole)
     where
-      own : SetEntered op (set_parts_in f).left (set_parts_in f).right s.relations shape ends shape' ends'
-      own = subst (λ (x : SetParts). SetEntered op x.left x.right s.relations shape ends shape' ends') pe e
+      own : SetOf op (set_parts_in f).left (set_parts_in f).right relations x
+      own = subst (λ (y : SetParts). SetOf op y.left y.right relations x) pe e
 
-      go : (d : Draft) (i : Item) → DraftIn d s shape ends → SetRead d op f i → Turn d i → whole_fault d i ≡ 0
-          → Counts (added d i) s' × Catalogued (added d i) shape' ends'
+      go : (d : Draft) (i : Item) → DraftIn d s relations → SetRead d op f i → Turn d i → whole_fault d i ≡ 0
+          → Counts (added d i) s' × Catalogued (added d i) (set relations s.relations x)
       go d i h read turn whole =
           let left = (set_parts_in f).left in
           let right = (set_parts_in f).right in
           let q : View = View.set op left right in
           let turn' : Turn d (Item.view q) = subst (Turn d) read.view turn in
-          let whole' : whole_fault d (Item.view q) ≡ 0 = subst (λ (x : Item). whole_fault d x ≡ 0) read.view whole in
-          subst (λ (x : Item). Counts (added d x) s' × Catalogued (added d x) shape' ends') (sym read.view) (
+          let whole' : whole_fault d (Item.view q) ≡ 0 = subst (λ (y : Item). whole_fault d y ≡ 0) read.view whole in
+          subst (λ (y : Item). Counts (added d y) s' × Catalogued (added d y) (set relations s.relations x)) (sym read.view) (
             rw w (counts-view h.counts q turn'),
-            own.entered d h.catalogued h.counts.relations (omega (arith, h.counts.relations, turn'.room)) (before d left read.left) (before d right read.right) (whole-bounded d q whole'),
+            set-added op left right s.relations x relations own d h.catalogued h.counts.relations (omega (arith, h.counts.relations, turn'.room)) (before d left read.left) (before d right read.right) (whole-bounded d q whole'),
           )
 
 -- ---- 07
 
-pub goal-done : {f : List ℕ} {s : Progress} {shape : List ℕ} {ends : List ℤ} {s' : Progress} {g : GoalHere} → GoalFault f s.tables s.relations 0
-    → g ≡ goal_in f → s' ≡ with_goal s g → Turned 7 f s shape ends shape ends (Ok s')
-goal-done {f} {s} {shape} {ends} {s'} {g} t e w = turned-done s' only_none (λ d h o r. t.at d h.counts.tables h.counts.relations)
+pub goal-done : {f : List ℕ} {s : Progress} {relations : List Relation} {s' : Progress} {g : GoalHere} → GoalFault f s.tables s.relations 0
+    → g ≡ goal_in f → s' ≡ with_goal s g → Turned 7 f s relations relations (Ok s')
+goal-done {f} {s} {relations} {s'} {g} t e w = turned-done s' only_none (λ d h o r. t.at d h.counts.tables h.counts.relations)
     (λ d i h o r reads whole.
     let goal = goal_of (goal_in f) in
-    subst (λ (x : Item). Counts (added d x) s' × Catalogued (added d x) shape ends) (sym (goal-read d f i reads))
+    subst (λ (x : Item). Counts (added d x) s' × Catalogued (added d x) relations) (sym (goal-read d f i reads))
     (rw w (counts-goal h.counts goal g (ap goal_of e)), goal-entered h.catalogued goal))

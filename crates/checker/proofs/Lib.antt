@@ -9,7 +9,7 @@ pub mod PairLaws
 pub mod FixedLaws
 pub mod FixedAnswers
 pub mod FitLaws
--- the arrays
+-- the relations
 pub mod EntryLaws
 pub mod SetLaws
 pub mod TableLaws

@@ -13,6 +13,10 @@ use Rattle.meaning.proofs.Stacks.{length-snoc}
 use Rattle.language.specs.Draft.{Draft, empty, added, is_nil, stage, stage_of, in_order, has_room, Item}
 use Rattle.language.specs.Check.{check_frame, read_checked, Checked}
 use Rattle.language.specs.Frames.{frame}
+use Rattle.std.specs.Prelude.{Some, None}
+use Rattle.catalog.specs.Kinds.{kind_at, number_of}
+use Rattle.catalog.specs.declared.kind.Kind.{Kind}
+use Rattle.catalog.proofs.KindNumbers.{kind-number, no-kind}
 use Rattle.catalog.specs.FileIn.{goal_of}
 use Rattle.catalog.specs.declared.plan.Goal.{Goal as GoalHere}
 use Rattle.checker.specs.Standing.{Counts, stage_number, start_progress, room_for, turn_fault, with_table, with_key, with_view, with_goal}
@@ -59,6 +63,31 @@ module _ (s : Progress) (kind : ℕ) {n : ℕ} (e : n ≡ stage_of kind) where
 -- of no kind
 pub turn-unknown : (s : Progress) (kind : ℕ) → 0 ≡ stage_of kind → 3 ≡ turn_fault s kind
 turn-unknown s kind e = turn-early s kind e (stage-some s.stage)
+
+-- the turn of the kind of a number
+module _ (s : Progress) (n : ℕ) {k : Kind} (e : kind_at n ≡ Some k) {m : ℕ} (q : m ≡ stage_of (number_of k)) where
+  of_kind : m ≡ stage_of n
+  of_kind = q ∙ ap stage_of (sym (kind-number n k e))
+
+  pub kind-early : m < stage_number s.stage → 3 ≡ turn_fault s n
+  kind-early h = turn-early s n of_kind h
+
+  pub kind-room : stage_number s.stage ≤ m → (b : Bool) → b ≡ room_for s m → cond b 0 5 ≡ turn_fault s n
+  kind-room h b p = turn-room s n of_kind h b p
+
+-- a number of no kind has no stage
+no-stage : (n : ℕ) → kind_at n ≡ None → 0 ≡ stage_of n
+no-stage n e = by-test (leb 1 (stage_of n))
+    (λ t. absurd (by_kind (λ j. n ≡ j → ⊥) (λ q. at (omega (arith, q)) (omega (arith, q))) (λ q. at (omega (arith, q)) (omega (arith, q)))
+    (λ q. at (omega (arith, q)) (omega (arith, q))) (λ q. at (omega (arith, q)) (omega (arith, q))) (λ q. at (omega (arith, q)) (omega (arith, q)))
+    (λ q. at (omega (arith, q)) (omega (arith, q))) (λ q. at (omega (arith, q)) (omega (arith, q))) n (leb-true 1 (stage_of n) t) refl))
+    (λ t. omega (arith, leb-false 1 (stage_of n) t))
+  where
+    at : 1 ≤ n → n ≤ 7 → ⊥
+    at = no-kind n e
+
+pub turn-none : (s : Progress) (n : ℕ) → kind_at n ≡ None → 3 ≡ turn_fault s n
+turn-none s n e = turn-unknown s n (no-stage n e)
 
 -- ---- the stage
 
@@ -145,11 +174,3 @@ module _ {d : Draft} {s : Progress} (h : Counts d s) where
       go true true e = absurd (n e)
       go true false e = ap Checked.fault (sym e)
       go false b e = ap Checked.fault (sym e)
-
--- ---- kinds
-
--- a kind that is none of the seven has no stage
-pub other-kind : (k : ℕ) → (k ≡ 1 → ⊥) → (k ≡ 2 → ⊥) → (k ≡ 3 → ⊥) → (k ≡ 4 → ⊥) → (k ≡ 5 → ⊥) → (k ≡ 6 → ⊥) → (k ≡ 7 → ⊥) → 0 ≡ stage_of k
-other-kind k a b c d e f g = by-test (leb 1 (stage_of k))
-    (λ t. absurd (by_kind (λ j. k ≡ j → ⊥) a b c d e f g k (leb-true 1 (stage_of k) t) refl))
-    (λ t. omega (arith, leb-false 1 (stage_of k) t))

@@ -1,10 +1,9 @@
--- The columns of a table's frame, and that the arrays after it stand for the draft with the table. Assumes nothing.
+-- The columns of a table's frame, and that the relations with it stand for the draft with the table. Assumes nothing.
 use mathlib.Core.Path.{◌≡◌, sym, ap, ap₂, ◌∙◌}
 use mathlib.Core.List.{List, [], ◌∷◌, map}
 use Prim.Native.Nat.{ℕ, zero, suc, ◌+◌, ◌*◌, ◌≤◌, ◌<◌}
 use native.Mathlib.Omega.{arith}
-use lib.IntN.{ℤ}
-use lib.ListN.{length, get_or, drop, length-map}
+use lib.ListN.{length, get_or, set, drop, length-map}
 use lib.Seq.{get_or-drop}
 use lib.Signed.{le_z}
 use Rattle.value.specs.Integer.{bytes_z}
@@ -14,14 +13,16 @@ use Rattle.range.specs.declared.Range.{Range}
 use Rattle.range.specs.Ranges.{range_from}
 use Rattle.language.specs.Reading.{Read, ◌>>=◌, done}
 use Rattle.language.proofs.Readers.{then_ok}
-use Rattle.catalog.specs.Arrays.{ranges_from, put_shape, put_ranges}
-use Rattle.language.specs.Frames.{repeated, column_field}
+use Rattle.catalog.specs.Relations.{no_range, ranges_of}
+use Rattle.catalog.specs.declared.relation.Relation.{Relation}
+use Rattle.language.specs.Draft.{Draft, Item, added}
+use Rattle.meaning.specs.Syntax.{Table}
+use Rattle.language.specs.Frames.{repeated, column_field, table_frame}
 use Rattle.catalog.specs.Frames.{columns_start, table_parts_in}
-use Rattle.catalog.specs.declared.frames.TableParts.{TableParts}
 use Rattle.catalog.proofs.PartsRead.{table-read}
-use Rattle.checker.specs.Entries.{column_from, column_in, TableEntered}
-use Rattle.catalog.proofs.ArrayLaws.{none, puts-outside, puts-ranges}
-use Rattle.checker.proofs.EntryLaws.{table-entered}
+use Rattle.checker.specs.Catalogued.{Catalogued}
+use Rattle.checker.specs.Entries.{column_from, column_in, TableOf}
+use Rattle.checker.proofs.EntryLaws.{table-entered, ranges-told}
 
 -- ---- columns
 
@@ -59,7 +60,7 @@ column-shift bs c =
     shift_none = omega arith
 
 columns-read : (n : ℕ) (bs : List ℕ) (cs : List Column) (rest : List ℕ) → repeated n column_field bs ≡ Read.ok cs rest
-    → (length cs ≡ n) × ((c : ℕ) → c < n → column_on bs (4 * c) ≡ get_or (map range_of cs) c none)
+    → (length cs ≡ n) × ((c : ℕ) → c < n → column_on bs (4 * c) ≡ get_or (map range_of cs) c no_range)
 columns-read zero bs cs rest e = let q : [] ≡ cs = cc in (sym (ap length q), λ c h. absurd (omega arith))
 columns-read (suc n) bs cs rest e =
     let (x, mid, p, q) = then_ok (column_field bs) (λ x. repeated n column_field >>= λ xs. done (x ∷ xs)) e in
@@ -70,8 +71,8 @@ columns-read (suc n) bs cs rest e =
     rw (← s) (ap suc more.0, λ c. go c x xs one.0 more.1)
   where
     go : (c : ℕ) (x : Column) (xs : List Column) → range_of x ≡ column_on bs 0
-        → ((c : ℕ) → c < n → column_on (drop 4 bs) (4 * c) ≡ get_or (map range_of xs) c none)
-        → c < suc n → column_on bs (4 * c) ≡ get_or (map range_of (x ∷ xs)) c none
+        → ((c : ℕ) → c < n → column_on (drop 4 bs) (4 * c) ≡ get_or (map range_of xs) c no_range)
+        → c < suc n → column_on bs (4 * c) ≡ get_or (map range_of (x ∷ xs)) c no_range
     go zero x xs o m h = sym o
     go (suc c) x xs o m h = sym (column-shift bs c) ∙ m c (omega arith)
 
@@ -83,23 +84,13 @@ column-in frame c =
     let at : (k j : ℕ) → 4 + k ≡ j → get_or (drop 4 frame) k 0 ≡ get_or frame j 0 = λ k j e. get_or-drop 4 frame k 0 ∙ ap (λ i. get_or frame i 0) e in
     rw (at (4 * c) (4 * c + 4) (omega arith), at (4 * c + 1) (4 * c + 4 + 1) (omega arith), at (4 * c + 2) (4 * c + 4 + 2) (omega arith), at (4 * c + 3) (4 * c + 4 + 3) (omega arith))
 
-parts-entered : (frame : List ℕ) (r : ℕ) (shape : List ℕ) (ends : List ℤ) (shape' : List ℕ) (ends' : List ℤ) → let p = table_parts_in frame in
-    shape' ≡ put_shape shape r 1 p.width p.rows p.mask → ends' ≡ put_ranges (column_in frame) ends r p.width → TableEntered frame r shape ends shape' ends'
-parts-entered frame r shape ends shape' ends' s p = record {
-  shape_is = s;
-  ends-are = p;
-  entered = λ d t c e l v q.
-      let h = table-read frame t q in
-      let w = (table_parts_in frame).width in
-      let (long, column) = columns-read w (drop columns_start frame) t.columns h.left h.columns in
-      let few : w ≤ 8 = omega (arith, h.few) in
-      let ranges : ranges_from ends' (16 * r) w ≡ map range_of t.columns = rw p
-      (puts-ranges (column_in frame) ends r l c.ends-size w few (map range_of t.columns) (length-map t.columns range_of ∙ long) (λ i k. column-in frame i ∙ column i k)) in
-      table-entered d t r 1 w (table_parts_in frame).rows (table_parts_in frame).mask shape ends shape' ends' c e l v few s (rw p (puts-outside (column_in frame) ends r w 8 few))
-      (ap₂ (λ b rs. record { bound = b; ranges = rs }) h.rows (sym ranges)) h.mask;
-}
-
-pub frame-entered : (frame : List ℕ) (r : ℕ) (shape : List ℕ) (ends : List ℤ) (shape' : List ℕ) (ends' : List ℤ) {p : TableParts} → p ≡ table_parts_in frame
-    → shape' ≡ put_shape shape r 1 p.width p.rows p.mask → ends' ≡ put_ranges (column_in frame) ends r p.width → TableEntered frame r shape ends shape' ends'
-frame-entered frame r shape ends shape' ends' e s q = parts-entered frame r shape ends shape' ends'
-    (s ∙ ap (λ (x : TableParts). put_shape shape r 1 x.width x.rows x.mask) e) (q ∙ ap (λ (x : TableParts). put_ranges (column_in frame) ends r x.width) e)
+pub table-added : (frame : List ℕ) (r : ℕ) (x : Relation) (rs : List Relation) → TableOf frame x → (d : Draft) (t : Table) → Catalogued d rs
+    → r ≡ length d.tables → r < 16 → d.views ≡ [] → table_frame (drop 1 frame) ≡ Read.ok (Item.table t) [] → Catalogued (added d (Item.table t)) (set rs r x)
+table-added frame r x rs h d t c e l v q =
+    let p = table-read frame t q in
+    let (long, column) = columns-read (table_parts_in frame).width (drop columns_start frame) t.columns p.left p.columns in
+    let few : x.width ≤ 8 = omega (arith, h.width, p.few) in
+    let ranges : ranges_of x ≡ map range_of t.columns =
+    ranges-told x (column_in frame) h.ranges few (map range_of t.columns) (length-map t.columns range_of ∙ long ∙ sym h.width)
+    (λ i k. column-in frame i ∙ column i (omega (arith, h.width))) in
+    table-entered d t r x rs c e l v few (ap₂ (λ b xs. record { bound = b; ranges = xs }) (p.rows ∙ sym h.bound) (sym ranges)) (p.mask ∙ sym h.mask)

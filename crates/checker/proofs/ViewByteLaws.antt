@@ -1,29 +1,31 @@
 -- The faults of the bytes of a view, part by part.
 --     times-then                   bytes of one test, and what follows them
 --     fault-next, fault-stop       what follows a part that ended, and one that did not
---     Repeated                     a repetition, as a loop goes through it
+--     Left                         a repetition, as a loop goes through it
+--     times-skip                   where a repetition ends
 --     select-next .. groups-stop   the parts behind the counts
 -- Assumes nothing.
 use Rattle.language.proofs.Turns.{count-schemas}
 use Rattle.meaning.proofs.Listed.{map-listed}
 use Rattle.meaning.specs.Bounds.{Schema, no_schema}
-use mathlib.Core.Path.{◌≡◌, refl, sym, ap, ◌∙◌}
+use mathlib.Core.Path.{◌≡◌, refl, sym, ap, subst, ◌∙◌}
 use mathlib.Core.Bool.{Bool}
 use mathlib.Core.List.{List, [], ◌∷◌, map}
 use Prim.Native.Nat.{ℕ, zero, suc, ◌+◌, ◌-◌, ◌≤◌, ◌<◌}
 use native.Mathlib.Omega.{arith}
 use lib.Dec.{ltb, leb}
-use lib.IntN.{ℤ}
 use lib.ListN.{length, get_or, drop, take}
 use borrow.Author.Tests.{leb-true, leb-false}
 use Rattle.value.proofs.Decides.{by-test, and_parts}
 use Rattle.value.proofs.Places.{from_byte}
 use Rattle.language.specs.Reading.{Read, Reader, done, and_then, ◌>>=◌, byte_if, place, Open, read_e, read_c, open_items}
 use Rattle.meaning.proofs.Elements.{all-given, map_same}
-use Rattle.prefix.specs.Skipped.{FormEnd, skip_of, skipped}
+use Rattle.std.specs.Prelude.{Result, Ok, Err}
+use Rattle.text.specs.declared.refusal.Reason.{Reason}
+use Rattle.prefix.specs.Skipped.{FormEnd, skip_of, skip_told, skipped}
 use Rattle.prefix.proofs.Ends.{Ends, Field, ends-done, ends_more, ends-bind, field-if, field-bind, field_e, field_c}
 use Rattle.prefix.proofs.Skips.{Landed, lands, field-lands, then-more, then-stop, next-is, level-done, level-bind, level-at}
-use Rattle.catalog.specs.Arrays.{width_at}
+use Rattle.catalog.specs.Relations.{width_at}
 use Rattle.catalog.specs.Frames.{froms_in}
 use Rattle.catalog.specs.Items.{bytes_at, open_in}
 use Rattle.catalog.proofs.ItemLaws.{bytes-length}
@@ -31,10 +33,11 @@ use Rattle.language.specs.Draft.{Draft, width, schemas_of, relation_count}
 use Rattle.language.specs.Frames.{repeated, ending, place_field}
 use Rattle.checker.specs.Faults.{fault_of, fault_at, first, under, within}
 use Rattle.checker.specs.Catalogued.{Catalogued}
-use Rattle.checker.specs.ViewFaults.{froms_under, select_end, condition_select, where_groups}
+use Rattle.checker.specs.ViewFaults.{froms_under, select_end, condition_select, where_groups, Times}
 use Rattle.checker.proofs.FieldLaws.{first-assoc, first-none, first_some, byte-then, byte-wrong, byte-missing, end-any}
 use Rattle.checker.proofs.FixedLaws.{width-known}
 use Rattle.meaning.specs.Syntax.{Expr}
+use Rattle.catalog.specs.declared.relation.Relation.{Relation}
 
 -- ---- the first of several faults
 
@@ -166,14 +169,14 @@ module _ (frame : List ℕ) (count : ℕ) where
 
 -- ---- the widths of the from items
 
-pub widths-are : {d : Draft} {shape : List ℕ} {ends : List ℤ} → Catalogued d shape ends → (fs : List ℕ) → map (width d) fs ≡ map (width_at shape) fs
-widths-are {d} {shape} c fs = map_same (width d) (width_at shape) (all-given (width-known c) fs)
+pub widths-are : {d : Draft} {relations : List Relation} → Catalogued d relations → (fs : List ℕ) → map (width d) fs ≡ map (width_at relations) fs
+widths-are {d} {relations} c fs = map_same (width d) (width_at relations) (all-given (width-known c) fs)
 
 -- what is open over them
-pub opens-are : {d : Draft} {shape : List ℕ} {ends : List ℤ} → Catalogued d shape ends → {n : ℕ} → relation_count d ≡ n → (fs : List ℕ)
-    → open_items (schemas_of d) fs ≡ open_in shape n fs
-opens-are {d} {shape} c {n} e fs =
-    rw (widths-are c fs, map-listed (λ (s : Schema). length s.ranges) (schemas_of d) no_schema (width_at shape) n (count-schemas d ∙ e) (λ i h. width-known c i))
+pub opens-are : {d : Draft} {relations : List Relation} → Catalogued d relations → {n : ℕ} → relation_count d ≡ n → (fs : List ℕ)
+    → open_items (schemas_of d) fs ≡ open_in relations n fs
+opens-are {d} {relations} c {n} e fs =
+    rw (widths-are c fs, map-listed (λ (s : Schema). length s.ranges) (schemas_of d) no_schema (width_at relations) n (count-schemas d ∙ e) (λ i h. width-known c i))
 
 -- ---- what follows a part
 
@@ -197,36 +200,40 @@ ends-times : {A : Type 0} {m : Reader A} → Ends m → (n : ℕ) → Ends (repe
 ends-times e zero = ends-done []
 ends-times e (suc n) = ends_more e (ends-times e n)
 
--- n of the same from `at` on, of which those behind the first k start at `next`
-pub record Repeated {A : Type 0} (frame : List ℕ) (m : Reader A) (at n next k : ℕ) : Type 0 where
-  pub same : skipped frame at (repeated n m) ≡ skipped frame next (repeated (n - k) m)
-  pub inside : next ≤ length frame
+-- n calls from `at` on, of which those behind the first k start at `next`
+pub record Left (call : ℕ → Result ℕ Reason → Type 0) (at n next k : ℕ) : Type 0 where
+  pub rest : (r : Result ℕ Reason) → Times call next (n - k) r → Times call at n r
+
+pub left-all : {call : ℕ → Result ℕ Reason → Type 0} (at n : ℕ) → Left call at n at 0
+left-all {call} at n = let l : n - 0 ≡ n = omega arith in record { rest = λ r t. subst (λ j. Times call at j r) l t }
+
+module _ {call : ℕ → Result ℕ Reason → Type 0} {at n next k : ℕ} (i : Left call at n next k) where
+  pub left-more : {e : ℕ} → k < n → call next (Ok e) → Left call at n e (k + 1)
+  left-more h p =
+      let l : suc (n - (k + 1)) ≡ n - k = omega arith in
+      record { rest = λ r t. i.rest r (subst (λ j. Times call next j r) l (Times.more p t)) }
+
+  pub left-stop : {e : Reason} → k < n → call next (Err e) → Times call at n (Err e)
+  left-stop {e} h p =
+      let l : suc (n - (k + 1)) ≡ n - k = omega arith in
+      i.rest (Err e) (subst (λ j. Times call next j (Err e)) l (Times.stop p))
+
+  pub left-none : n ≤ k → Times call at n (Ok next)
+  left-none h = let l : 0 ≡ n - k = omega arith in i.rest (Ok next) (subst (λ j. Times call next j (Ok next)) l Times.none)
 
 module _ {A : Type 0} (frame : List ℕ) {m : Reader A} (s : Field m) (at n : ℕ) where
-  pub repeat-holds : at ≤ length frame → Repeated frame m at n at 0
-  repeat-holds h = let e : n - 0 ≡ n = omega arith in record { same = rw e; inside = h }
-
-  module _ {next k : ℕ} (i : Repeated frame m at n next k) where
-    pub repeat-again : {e : ℕ} {r : FormEnd} → k < n → r ≡ skipped frame next m → r ≡ FormEnd.next e → Repeated frame m at n e (k + 1)
-    repeat-again h p q =
-        let l : n - k ≡ suc (n - (k + 1)) = omega arith in
-        record {
-          same = i.same ∙ ap (λ j. skipped frame next (repeated j m)) l ∙ then-more frame s next p q (repeated (n - (k + 1)) m);
-          inside = (field-lands frame s next _ (sym p ∙ q)).inside;
-        }
-
-    pub repeat-stops : {e : ℕ} {r : FormEnd} → k < n → r ≡ skipped frame next m → r ≡ FormEnd.refused e → skipped frame at (repeated n m) ≡ FormEnd.refused e
-    repeat-stops h p q =
-        let l : n - k ≡ suc (n - (k + 1)) = omega arith in
-        i.same ∙ ap (λ j. skipped frame next (repeated j m)) l ∙ then-stop frame m _ next _ p q
-
-    pub repeat-ends : n ≤ k → skipped frame at (repeated n m) ≡ FormEnd.next next
-    repeat-ends h =
-        let l : n - k ≡ 0 = omega arith in
-        i.same ∙ ap (λ j. skipped frame next (repeated j m)) l ∙ next-is frame (done []) next next i.inside refl
-
   pub repeat-lands : {next : ℕ} {r : FormEnd} → at ≤ length frame → r ≡ skipped frame at (repeated n m) → r ≡ FormEnd.next next → Landed frame (repeated n m) at next
   repeat-lands h p q = lands frame (ends-times s.ends n) at _ h (sym p ∙ q)
+
+-- each call ends where the reader ends, and so do all of them
+pub times-skip : {A : Type 0} (frame : List ℕ) {m : Reader A} → Field m → {call : ℕ → Result ℕ Reason → Type 0}
+    → ((at : ℕ) (r : Result ℕ Reason) → call at r → skip_told r ≡ skipped frame at m)
+    → {at n : ℕ} {r : Result ℕ Reason} → at ≤ length frame → Times call at n r → skip_told r ≡ skipped frame at (repeated n m)
+times-skip frame s says {at} h Times.none = sym (next-is frame (done []) at at h refl)
+times-skip frame {m} s says {at} h (Times.more {next = next} {n = n} p t) =
+    let e : FormEnd.next next ≡ skipped frame at m = says at _ p in
+    times-skip frame s says (field-lands frame s at next (sym e)).inside t ∙ sym (then-more frame s at e refl (repeated n m))
+times-skip frame {m} s says {at} h (Times.stop p) = sym (then-stop frame m _ at _ (says at _ p) refl)
 
 -- ---- a grouping column: the place of an expression, read as a place
 

@@ -5,11 +5,11 @@ use mathlib.Core.Bool.{Bool, true, false}
 use mathlib.Core.List.{List}
 use Prim.Native.Nat.{ℕ, ◌+◌}
 use native.Mathlib.Omega.{arith}
-use lib.IntN.{ℤ}
 use lib.ListN.{get_or}
 use Rattle.language.specs.Reading.{Reader, ◌>>=◌, byte_if, open_items, read_e, read_c, Open}
 use Rattle.catalog.specs.Frames.{froms_in}
 use Rattle.catalog.specs.Items.{bytes_at, relations_in, items_of, open_in}
+use Rattle.catalog.specs.declared.relation.Relation.{Relation}
 use Rattle.catalog.specs.declared.items.Items.{Items}
 use Rattle.catalog.proofs.ItemLaws.{items_back}
 use Rattle.language.specs.Draft.{Draft, Item, relation_count, schemas_of}
@@ -63,12 +63,12 @@ count-then frame at p k e x y z =
 
 -- ---- the whole frame: `o` is what is open over the from items where these have no fault
 
-module _ (frame shape : List ℕ) (count : ℕ) {o : Open}
-    (w : fault_at frame 1 (froms_under count) ≡ 0 → o ≡ open_in shape count (bytes_at frame 2 (get_or frame 1 0))) where
-  bytes-law : (grouped : Bool) (d : Draft) (ends : List ℤ) → Catalogued d shape ends → count ≡ relation_count d
+module _ (frame : List ℕ) (relations : List Relation) (count : ℕ) {o : Open}
+    (w : fault_at frame 1 (froms_under count) ≡ 0 → o ≡ open_in relations count (bytes_at frame 2 (get_or frame 1 0))) where
+  bytes-law : (grouped : Bool) (d : Draft) → Catalogued d relations → count ≡ relation_count d
       → let at = get_or frame 1 0 + 2 in
       fault_at frame 1 (own_frame grouped d) ≡ first (fault_at frame 1 (froms_under count)) (fault_at frame at (behind_froms grouped o))
-  bytes-law grouped d ends c e =
+  bytes-law grouped d c e =
       let at = get_or frame 1 0 + 2 in
       let fs = bytes_at frame 2 (get_or frame 1 0) in
       let own = open_items (schemas_of d) fs in
@@ -80,19 +80,19 @@ module _ (frame shape : List ℕ) (count : ℕ) {o : Open}
 
 -- ---- the answer
 
-module _ (frame shape : List ℕ) (count : ℕ) {items : Items} {n v : ℕ} (e : items ≡ items_of (froms_in frame)) (f : n ≡ get_or frame 1 0) (g : v ≡ n) where
+module _ (frame : List ℕ) (relations : List Relation) (count : ℕ) {items : Items} {n v : ℕ} (e : items ≡ items_of (froms_in frame)) (f : n ≡ get_or frame 1 0) (g : v ≡ n) where
   abbrev X : Open
-  X = open_in shape count (relations_in items)
+  X = open_in relations count (relations_in items)
 
-  opened : fault_at frame 1 (froms_under count) ≡ 0 → X ≡ open_in shape count (bytes_at frame 2 (get_or frame 1 0))
-  opened h = ap (open_in shape count) (ap relations_in e ∙ items_back (froms_in frame) (froms-six frame count h) ∙ sym (froms-there frame count h))
+  opened : fault_at frame 1 (froms_under count) ≡ 0 → X ≡ open_in relations count (bytes_at frame 2 (get_or frame 1 0))
+  opened h = ap (open_in relations count) (ap relations_in e ∙ items_back (froms_in frame) (froms-six frame count h) ∙ sym (froms-there frame count h))
 
   pub bytes-fault : (grouped : Bool) {a b r : ℕ} → a ≡ fault_at frame 1 (froms_under count) → b ≡ fault_at frame (v + 2) (behind_froms grouped X)
-      → r ≡ first a b → BytesFault grouped frame shape count r
+      → r ≡ first a b → BytesFault grouped frame relations count r
   bytes-fault grouped p q z = record {
     here =
         z ∙ ap₂ first p
-        (q ∙ ap₂ (λ (i : ℕ) (x : Items). fault_at frame (i + 2) (behind_froms grouped (open_in shape count (relations_in x)))) (g ∙ f) e);
-    at = λ d ends c y.
-        z ∙ ap₂ first p (q ∙ ap (λ i. fault_at frame (i + 2) (behind_froms grouped X)) (g ∙ f)) ∙ sym (bytes-law frame shape count opened grouped d ends c y);
+        (q ∙ ap₂ (λ (i : ℕ) (x : Items). fault_at frame (i + 2) (behind_froms grouped (open_in relations count (relations_in x)))) (g ∙ f) e);
+    at = λ d c y.
+        z ∙ ap₂ first p (q ∙ ap (λ i. fault_at frame (i + 2) (behind_froms grouped X)) (g ∙ f)) ∙ sym (bytes-law frame relations count opened grouped d c y);
   }

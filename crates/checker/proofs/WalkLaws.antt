@@ -7,7 +7,6 @@ use Prim.Native.Nat.{ℕ, zero, suc, ◌+◌, ◌-◌, ◌≤◌, ◌<◌}
 use native.Mathlib.Numerals.{add-one}
 use native.Mathlib.Omega.{arith}
 use lib.Dec.{eqb}
-use lib.IntN.{ℤ}
 use lib.ListN.{length, get_or, drop, length-drop, drop_of_length-le}
 use borrow.Author.Tests.{eqb-true, eqb-false}
 use Rattle.value.proofs.Decides.{by-test}
@@ -15,9 +14,9 @@ use Rattle.value.proofs.Places.{byte-here}
 use Rattle.text.specs.Answers.{pack}
 use Rattle.language.specs.Draft.{Draft, empty}
 use Rattle.language.specs.Check.{Checked, check_frame, Reached, onward, reach}
-use Rattle.catalog.specs.Arrays.{put_start}
+use Rattle.catalog.specs.Relations.{put_start}
 use Rattle.catalog.specs.Frames.{frame_at}
-use Rattle.catalog.proofs.ArrayLaws.{first-same, first_more, start-kept, start-there, start-other}
+use Rattle.catalog.proofs.RelationLaws.{start-there, start-other, start-known, known-same, known-more}
 use Rattle.catalog.proofs.FrameLaws.{pack-cons, frame_here}
 use Rattle.checker.specs.Catalogued.{checked_fault}
 use Rattle.checker.specs.Standing.{DraftIn, Stepped, start_progress}
@@ -30,6 +29,7 @@ use Rattle.text.specs.declared.refusal.Refusal.{Refusal}
 use Rattle.checker.specs.Faults.{fault_told}
 use Rattle.checker.proofs.FaultLaws.{number-some}
 use Rattle.language.proofs.Steps.{Looked, looked}
+use Rattle.catalog.specs.declared.relation.Relation.{Relation}
 
 no : {A : Type 0} → ◌≡◌ {A = ℕ} 0 1 → A
 no z = absurd (omega arith)
@@ -53,12 +53,12 @@ head_of packed at f (g ∷ fs) h is e =
 
 -- ---- one turn of the walk
 
-pub record Left (packed : List ℕ) (s : Progress) (shape : List ℕ) (ends : List ℤ) (at line : ℕ) (fs : List (List ℕ)) : Type 0 where
+pub record Left (packed : List ℕ) (s : Progress) (rs : List Relation) (at line : ℕ) (fs : List (List ℕ)) : Type 0 where
   pub rest : List (List ℕ)
   pub draft : Draft
   pub bytes : drop at packed ≡ pack rest
   pub same : reach fs empty 1 ≡ reach rest draft (suc line)
-  pub held : DraftIn draft s shape ends
+  pub held : DraftIn draft s rs
 
 -- a draft with no fault goes on
 next_of : {d : Draft} {f : List ℕ} {c : Checked} → Looked d f c → checked_fault c ≡ 0 → (e : Draft) × (c ≡ Checked.next e)
@@ -69,7 +69,7 @@ fault-of : (c : Checked) {n : ℕ} → n ≡ checked_fault c → (n ≡ 0 → �
 fault-of (Checked.fault m) e z = ap Checked.fault (sym e)
 fault-of (Checked.next d) e z = absurd (z e)
 
-module _ (packed : List ℕ) (s : Progress) (shape : List ℕ) (ends : List ℤ) (at line : ℕ) (fs : List (List ℕ)) (h : Left packed s shape ends at line fs) where
+module _ (packed : List ℕ) (s : Progress) (rs : List Relation) (at line : ℕ) (fs : List (List ℕ)) (h : Left packed s rs at line fs) where
   module _ (k : at < length packed) (f : List ℕ) (is : f ≡ frame_at packed at) where
     front : Head packed at f h.rest
     front = head_of packed at f h.rest k is h.bytes
@@ -82,15 +82,15 @@ module _ (packed : List ℕ) (s : Progress) (shape : List ℕ) (ends : List ℤ)
     unfolding reach onwards
     first_step = h.same ∙ ap (λ r. reach r h.draft (suc line)) front.split
 
-    module _ (shape' : List ℕ) (ends' : List ℤ) (r : Result Progress Reason) (t : Stepped f s shape ends shape' ends' r) where
-      pub walk-stops : (e : Reason) → r ≡ Err e → (x : Refusal) → x ≡ record { reason = e; line = line + 1 } → WalkedTo (reach fs empty 1) (Err x) shape' ends'
+    module _ (rs' : List Relation) (r : Result Progress Reason) (t : Stepped f s rs rs' r) where
+      pub walk-stops : (e : Reason) → r ≡ Err e → (x : Refusal) → x ≡ record { reason = e; line = line + 1 } → WalkedTo (reach fs empty 1) (Err x) rs'
       unfolding onwards
       walk-stops e p x q =
           let c : check_frame h.draft f ≡ Checked.fault (number_of e) = fault-of (check_frame h.draft f) (sym (ap fault_told p) ∙ t.fault h.draft h.held) (number-some e) in
           let a : reach fs empty 1 ≡ Reached.stopped (number_of e) (suc line) = first_step ∙ ap onwards c in
           rw a (ap (λ (y : Refusal). number_of y.reason) q, ap (λ (y : Refusal). y.line) q ∙ omega arith)
 
-      pub walk-goes : (u : Progress) → r ≡ Ok u → Left packed u shape' ends' (at + 1 + length f) (line + 1) fs
+      pub walk-goes : (u : Progress) → r ≡ Ok u → Left packed u rs' (at + 1 + length f) (line + 1) fs
       unfolding onwards
       walk-goes u p =
           let (e, c) = next_of (looked h.draft f) (sym (t.fault h.draft h.held) ∙ ap fault_told p) in
@@ -111,16 +111,16 @@ module _ (packed : List ℕ) (s : Progress) (shape : List ℕ) (ends : List ℤ)
       go [] e = refl
       go (f ∷ fs) e = no cc
 
-  pub walk_ends : length packed ≤ at → WalkedTo (reach fs empty 1) (Ok s) shape ends
+  pub walk_ends : length packed ≤ at → WalkedTo (reach fs empty 1) (Ok s) rs
   unfolding reach
   walk_ends k =
       let e : reach fs empty 1 ≡ Reached.came h.draft = h.same ∙ ap (λ r. reach r h.draft (suc line)) (over k) in
       rw e h.held
 
-pub walk_begins : (packed shape : List ℕ) (ends : List ℤ) (s : Progress) → s ≡ start_progress → (fs : List (List ℕ)) → packed ≡ pack fs → DraftIn empty start_progress shape ends
-    → Left packed s shape ends 0 0 fs
-walk_begins packed shape ends s e fs p h =
-    record { rest = fs; draft = empty; bytes = p; same = refl; held = subst (λ (x : Progress). DraftIn empty x shape ends) (sym e) h }
+pub walk_begins : (packed : List ℕ) (rs : List Relation) (s : Progress) → s ≡ start_progress → (fs : List (List ℕ)) → packed ≡ pack fs → DraftIn empty start_progress rs
+    → Left packed s rs 0 0 fs
+walk_begins packed rs s e fs p h =
+    record { rest = fs; draft = empty; bytes = p; same = refl; held = subst (λ (x : Progress). DraftIn empty x rs) (sym e) h }
 
 -- ---- where frames begin
 
@@ -136,23 +136,22 @@ start_back bytes tail (suc n) at (f ∷ fs) e h =
     let i : at + get_or bytes at 0 + 1 ≡ at + 1 + length f = omega (arith, (byte-here bytes at here).0) in
     ap (λ j. drop (start_from bytes j n) bytes) i ∙ start_back bytes tail n (at + 1 + length f) fs (frame_here bytes at f (pack fs ++ tail) here).1 (omega arith)
 
-pub starts_none : (packed : List ℕ) (tables keys : ℕ) (shape : List ℕ) → StartsPut packed tables keys 0 shape shape
+pub starts_none : (packed : List ℕ) (tables keys : ℕ) (rs : List Relation) → StartsPut packed tables keys 0 rs rs
 unfolding put_starts
-starts_none packed tables keys shape = record { shape_is = refl; kept = first-same 4 shape; there = λ r h. absurd (omega arith) }
+starts_none packed tables keys rs = record { relations-are = refl; known = known-same rs; there = λ r h. absurd (omega arith) }
 
-pub starts_more : (packed : List ℕ) (tables keys n : ℕ) (shape shape₁ shape₂ : List ℕ) (x y : ℕ) → n < 16 → StartsPut packed tables keys n shape shape₁
-    → y ≡ frame_number tables keys n → x ≡ start_from packed 0 y → shape₂ ≡ put_start shape₁ n x → StartsPut packed tables keys (n + 1) shape shape₂
+pub starts_more : (packed : List ℕ) (tables keys n : ℕ) (rs rs₁ rs₂ : List Relation) (x y : ℕ) → StartsPut packed tables keys n rs rs₁
+    → y ≡ frame_number tables keys n → x ≡ start_from packed 0 y → rs₂ ≡ put_start rs₁ n x → StartsPut packed tables keys (n + 1) rs rs₂
 unfolding put_starts
-starts_more packed tables keys n shape shape₁ shape₂ x y l s f e p = record {
-  shape_is = rw (add-one n) (p ∙ ap₂ (λ (z : List ℕ) (i : ℕ). put_start z n i) s.shape_is (e ∙ ap (start_from packed 0) f));
-  kept = rw p (first_more s.kept (start-kept shape₁ n x));
-  there = λ r h z b. by-test (eqb r n)
-      (λ t. let q : r ≡ n = eqb-true r n t in
-      let here : x ≡ start_from packed 0 (frame_number tables keys n) = e ∙ ap (start_from packed 0) f in
-      let small : start_from packed 0 (frame_number tables keys n) < 65536 = rw q at b in
-      rw (q, p) (start-there shape₁ n x (omega (arith, z, s.kept.size)) (omega (arith, here, small)) ∙ here))
-      (λ t. rw p (start-other shape₁ n x r (eqb-false r n t)) ∙ s.there r (omega (arith, eqb-false r n t)) z b);
-}
+starts_more packed tables keys n rs rs₁ rs₂ x y s f e p =
+    let here : x ≡ start_from packed 0 (frame_number tables keys n) = e ∙ ap (start_from packed 0) f in
+    record {
+      relations-are = rw (add-one n) (p ∙ ap₂ (λ (l : List Relation) (at : ℕ). put_start l n at) s.relations-are here);
+      known = rw p (known-more s.known (start-known rs₁ n x));
+      there = λ r h z. by-test (eqb r n)
+          (λ t. let q : r ≡ n = eqb-true r n t in rw (q, p) (start-there rs₁ n x (omega (arith, z, q, s.known.size)) ∙ here))
+          (λ t. rw p (start-other rs₁ n x r (eqb-false r n t)) ∙ s.there r (omega (arith, eqb-false r n t)) z);
+    }
 
 -- frame k behind a place, and no more of n
 pub start-turn : (packed : List ℕ) (at n k : ℕ) → k < n → start_from packed (at + get_or packed at 0 + 1) (n - (k + 1)) ≡ start_from packed at (n - k)
@@ -162,7 +161,3 @@ start-turn packed at n k h = let e : n - k ≡ suc (n - (k + 1)) = omega arith i
 pub start-end : (packed : List ℕ) (at n k : ℕ) → n ≤ k → at ≡ start_from packed at (n - k)
 unfolding start_from
 start-end packed at n k h = let e : n - k ≡ 0 = omega arith in rw e
-
-pub starts-full : (packed : List ℕ) (tables keys n : ℕ) (shape shape' : List ℕ) → n ≡ 16 → StartsPut packed tables keys n shape shape'
-    → StartsPut packed tables keys 16 shape shape'
-starts-full packed tables keys n shape shape' h s = rw h at s

@@ -1,16 +1,17 @@
 -- The faults of the frames of fixed layout, as the code has them: the parts of each, and what the code promises of each frame for
--- every draft that its arrays and counts stand for. Assumes nothing: these are definitions.
-use Rattle.std.specs.Prelude.{◌≡◌, Bool, true, false, cond, List, ℕ, zero, suc, ◌+◌, ◌*◌, ◌/◌, ◌%◌, ◌^◌, ◌<◌, min, leb, eqb, ℤ, length, get_or}
+-- every draft that its relations and counts stand for. Assumes nothing: these are definitions.
+use Rattle.std.specs.Prelude.{◌≡◌, cond, List, ℕ, zero, suc, ◌+◌, ◌*◌, ◌/◌, ◌%◌, ◌^◌, ◌<◌, min, leb, eqb, length, get_or}
 use Rattle.value.specs.Bag.{tick}
 use Rattle.meaning.specs.Syntax.{SetOperation}
 use Rattle.meaning.specs.Bounds.{set_bound}
 use Rattle.language.specs.Reading.{byte_if}
 use Rattle.language.specs.Draft.{Draft, relation_count}
 use Rattle.language.specs.Frames.{repeated, ending, column_field, pair_field, table_frame, key_frame, set_frame, goal_frame, no_table}
-use Rattle.catalog.specs.Arrays.{width_at, bound_at, mask_at}
+use Rattle.catalog.specs.Relations.{width_at, bound_at, mask_at}
 use Rattle.catalog.specs.Frames.{columns_start}
 use Rattle.checker.specs.Faults.{fault_at, first, under, within, from_under}
 use Rattle.checker.specs.Catalogued.{Catalogued, body_fault}
+use Rattle.catalog.specs.declared.relation.Relation.{Relation}
 
 -- ---- 01 table
 
@@ -57,16 +58,11 @@ unfoldable pub key_pairs : List ℕ → ℕ → ℕ → ℕ → ℕ
 key_pairs frame c p n = first (pairs_fault frame c p 4 n) (fault_at frame (4 + n * 2) (ending (4 + n * 2)))
 
 -- the pairs, and then the rule on the parent's key
-unfoldable pub key_body : List ℕ → List ℕ → ℕ → ℕ → ℕ → ℕ
-key_body frame shape child parent n =
-    first (key_pairs frame (width_at shape child) (width_at shape parent) n) (pairing frame n 0 (width_at shape parent) (mask_at shape parent))
+unfoldable pub key_body : List ℕ → List Relation → ℕ → ℕ → ℕ → ℕ
+key_body frame relations child parent n =
+    first (key_pairs frame (width_at relations child) (width_at relations parent) n) (pairing frame n 0 (width_at relations parent) (mask_at relations parent))
 
 -- ---- 05 union, 06 intersection
-
--- the code says by a test which of the two
-abbrev pub set_operation : Bool → SetOperation
-set_operation true = SetOperation.union
-set_operation false = SetOperation.intersection
 
 -- two views, and nothing behind them
 unfoldable pub set_bytes : List ℕ → ℕ → ℕ → ℕ
@@ -74,10 +70,10 @@ set_bytes frame tables count =
     first (fault_at frame 1 (byte_if 6 (from_under tables count))) (first (fault_at frame 2 (byte_if 6 (from_under tables count))) (fault_at frame 3 (ending {A = ℕ} 3)))
 
 -- the rules on a set view of two relations: 6 by their columns, then 8 by their row bounds
-unfoldable pub set_rules : SetOperation → List ℕ → ℕ → ℕ → ℕ
-set_rules op shape i j = cond (eqb (width_at shape i) (width_at shape j)) (cond (leb (set_bound op (bound_at shape i) (bound_at shape j)) 64) 0 8) 6
+unfoldable pub set_rules : SetOperation → List Relation → ℕ → ℕ → ℕ
+set_rules op relations i j = cond (eqb (width_at relations i) (width_at relations j)) (cond (leb (set_bound op (bound_at relations i) (bound_at relations j)) 64) 0 8) 6
 
--- ---- what the code promises: `here` on any bytes and arrays, `at` for a draft that the arrays stand for
+-- ---- what the code promises: `here` on any bytes and relations, `at` for a draft that the relations stand for
 
 pub record TableFault (frame : List ℕ) (r : ℕ) : Type 0 where
   pub at : (d : Draft) → r ≡ body_fault d table_frame frame
@@ -86,13 +82,13 @@ pub record TableFault (frame : List ℕ) (r : ℕ) : Type 0 where
 pub record KeysFit (d : Draft) : Type 0 where
   pub fits : (i : ℕ) → i < length d.tables → length (get_or d.tables i no_table).key ≡ length (get_or d.tables i no_table).columns
 
-pub record KeyFault (frame shape : List ℕ) (tables r : ℕ) : Type 0 where
-  pub here : r ≡ first (key_head frame tables) (key_body frame shape (get_or frame 1 0) (get_or frame 2 0) (get_or frame 3 0))
-  pub at : (d : Draft) (ends : List ℤ) → Catalogued d shape ends → KeysFit d → tables ≡ length d.tables → r ≡ body_fault d (key_frame d) frame
+pub record KeyFault (frame : List ℕ) (relations : List Relation) (tables r : ℕ) : Type 0 where
+  pub here : r ≡ first (key_head frame tables) (key_body frame relations (get_or frame 1 0) (get_or frame 2 0) (get_or frame 3 0))
+  pub at : (d : Draft) → Catalogued d relations → KeysFit d → tables ≡ length d.tables → r ≡ body_fault d (key_frame d) frame
 
-pub record SetFault (frame shape : List ℕ) (tables count : ℕ) (op : SetOperation) (r : ℕ) : Type 0 where
-  pub here : r ≡ first (set_bytes frame tables count) (set_rules op shape (get_or frame 1 0) (get_or frame 2 0))
-  pub at : (d : Draft) (ends : List ℤ) → Catalogued d shape ends → tables ≡ length d.tables → count ≡ relation_count d
+pub record SetFault (frame : List ℕ) (relations : List Relation) (tables count : ℕ) (op : SetOperation) (r : ℕ) : Type 0 where
+  pub here : r ≡ first (set_bytes frame tables count) (set_rules op relations (get_or frame 1 0) (get_or frame 2 0))
+  pub at : (d : Draft) → Catalogued d relations → tables ≡ length d.tables → count ≡ relation_count d
       → r ≡ body_fault d (set_frame d op) frame
 
 pub record GoalFault (frame : List ℕ) (tables count r : ℕ) : Type 0 where

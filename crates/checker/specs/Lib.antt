@@ -1,4 +1,4 @@
--- What the checker's numbers and arrays stand for, and what its functions give.
+-- What the checker's numbers and relations stand for, and what its functions give.
 pub mod Faults
 pub mod Catalogued
 pub mod FixedFaults

@@ -1,5 +1,5 @@
--- What the checker's counts stand for, and what one frame does to them and to the arrays. Assumes nothing: these are definitions.
-use Rattle.std.specs.Prelude.{◌≡◌, Option as OptionHere, Some, None, Result, Ok, ◌⊎◌, Bool, true, false, cond, List, [], ℕ, ◌+◌, ◌*◌, ◌≤◌, ◌<◌, min, ltb, leb, eqb, ℤ, pos, length, get_or, drop}
+-- What the checker's counts stand for, and what one frame does to them and to the relations. Assumes nothing: these are definitions.
+use Rattle.std.specs.Prelude.{◌≡◌, Result, Ok, Err, Bool, true, false, cond, List, [], ℕ, ◌+◌, min, ltb, leb, eqb, length, drop}
 use Rattle.std.proofs.Math.Option.{some}
 use Rattle.text.specs.declared.refusal.Reason.{Reason}
 use Rattle.meaning.specs.Syntax.{Goal}
@@ -7,7 +7,7 @@ use Rattle.language.specs.Reading.{Read}
 use Rattle.language.specs.Draft.{Draft, Item, added, relation_count, stage, stage_of, in_order, has_room}
 use Rattle.language.specs.Frames.{frame, whole_fault}
 use Rattle.language.specs.Check.{Checked, check_frame}
-use Rattle.catalog.specs.Arrays.{entry}
+use Rattle.catalog.specs.Relations.{relation_at}
 use Rattle.catalog.specs.declared.plan.Goal.{Goal as GoalHere}
 use Rattle.checker.specs.Faults.{fault_told}
 use Rattle.checker.specs.Catalogued.{Catalogued, checked_fault, body_fault}
@@ -15,20 +15,17 @@ use Rattle.checker.specs.FixedFaults.{KeysFit}
 use Rattle.checker.specs.declared.state.Progress.{Progress}
 use Rattle.checker.specs.declared.state.Stage.{Stage}
 use Rattle.checker.specs.declared.state.Stage.TheVariants.{Tables, Keys, Views, Goal as GoalStage, Ended}
+use Rattle.catalog.specs.declared.relation.Relation.{Relation}
 
 -- ---- the counts
 
--- the number of each stage, and 0 for no kind
+-- the number of each stage
 abbrev pub stage_number : Stage → ℕ
 stage_number Tables = 1
 stage_number Keys = 2
 stage_number Views = 3
 stage_number GoalStage = 4
 stage_number Ended = 5
-
-abbrev pub stage_told : OptionHere Stage → ℕ
-stage_told (Some s) = stage_number s
-stage_told None = 0
 
 pub record Counts (d : Draft) (s : Progress) : Type 0 where
   pub tables : s.tables ≡ length d.tables
@@ -70,30 +67,29 @@ with_goal s g = record { tables = s.tables; relations = s.relations; keys = s.ke
 
 -- ---- a frame
 
--- the counts and arrays stand for a draft that frames make
-pub record DraftIn (d : Draft) (s : Progress) (shape : List ℕ) (ends : List ℤ) : Type 0 where
+-- the counts and relations stand for a draft that frames make
+pub record DraftIn (d : Draft) (s : Progress) (rs : List Relation) : Type 0 where
   pub counts : Counts d s
-  pub catalogued : Catalogued d shape ends
+  pub catalogued : Catalogued d rs
   pub fits : KeysFit d
 
--- what may change where relation r is entered: its own first four bytes, and no range of a relation before it
-pub record OnlyRelation (r : ℕ) (shape : List ℕ) (ends : List ℤ) (shape' : List ℕ) (ends' : List ℤ) : Type 0 where
-  pub shape_size : length shape' ≡ length shape
-  pub bytes : (k : ℕ) → (k < entry r) ⊎ (entry r + 4 ≤ k) → get_or shape' k 0 ≡ get_or shape k 0
-  pub ends-size : length ends' ≡ length ends
-  pub ranges : (k : ℕ) → k < 16 * r → get_or ends' k (pos 0) ≡ get_or ends k (pos 0)
+-- what may change where relation r is entered: no other relation
+pub record OnlyRelation (r : ℕ) (rs rs' : List Relation) : Type 0 where
+  pub size : length rs' ≡ length rs
+  pub others : (i : ℕ) → (i ≡ r → ⊥) → relation_at rs' i ≡ relation_at rs i
 
--- what the frame f of kind k does when its turn has come. With a fault what is entered is open, and so is all where the arrays stand for
--- no draft, but for which numbers may change: `walk` begins with the arrays of the empty draft, ends at the first fault, and a refusal has no
--- arrays.
-pub record Turned (k : ℕ) (f : List ℕ) (s : Progress) (shape : List ℕ) (ends : List ℤ) (shape' : List ℕ) (ends' : List ℤ) (r : Result Progress Reason) : Type 0 where
-  pub only : OnlyRelation s.relations shape ends shape' ends'
-  pub fault : (d : Draft) → DraftIn d s shape ends → in_order d k ≡ true → has_room d k ≡ true → fault_told r ≡ body_fault d (frame d k) f
-  pub next : (d : Draft) (i : Item) (t : Progress) → r ≡ Ok t → DraftIn d s shape ends → in_order d k ≡ true → has_room d k ≡ true
-      → frame d k (drop 1 f) ≡ Read.ok i [] → whole_fault d i ≡ 0 → Counts (added d i) t × Catalogued (added d i) shape' ends'
+-- what the frame f of kind k does when its turn has come: with a fault no relation changes. All else is open where the relations stand for no
+-- draft: `walk` begins with those of the empty draft, ends at the first fault, and a refusal has no relations.
+pub record Turned (k : ℕ) (f : List ℕ) (s : Progress) (rs rs' : List Relation) (r : Result Progress Reason) : Type 0 where
+  pub only : OnlyRelation s.relations rs rs'
+  pub kept : (n : Reason) → r ≡ Err n → rs' ≡ rs
+  pub fault : (d : Draft) → DraftIn d s rs → in_order d k ≡ true → has_room d k ≡ true → fault_told r ≡ body_fault d (frame d k) f
+  pub next : (d : Draft) (i : Item) (t : Progress) → r ≡ Ok t → DraftIn d s rs → in_order d k ≡ true → has_room d k ≡ true
+      → frame d k (drop 1 f) ≡ Read.ok i [] → whole_fault d i ≡ 0 → Counts (added d i) t × Catalogued (added d i) rs'
 
 -- what any frame does
-pub record Stepped (f : List ℕ) (s : Progress) (shape : List ℕ) (ends : List ℤ) (shape' : List ℕ) (ends' : List ℤ) (r : Result Progress Reason) : Type 0 where
-  pub only : OnlyRelation s.relations shape ends shape' ends'
-  pub fault : (d : Draft) → DraftIn d s shape ends → fault_told r ≡ checked_fault (check_frame d f)
-  pub next : (d e : Draft) (t : Progress) → r ≡ Ok t → DraftIn d s shape ends → check_frame d f ≡ Checked.next e → DraftIn e t shape' ends'
+pub record Stepped (f : List ℕ) (s : Progress) (rs rs' : List Relation) (r : Result Progress Reason) : Type 0 where
+  pub only : OnlyRelation s.relations rs rs'
+  pub kept : (n : Reason) → r ≡ Err n → rs' ≡ rs
+  pub fault : (d : Draft) → DraftIn d s rs → fault_told r ≡ checked_fault (check_frame d f)
+  pub next : (d e : Draft) (t : Progress) → r ≡ Ok t → DraftIn d s rs → check_frame d f ≡ Checked.next e → DraftIn e t rs'

@@ -1,5 +1,6 @@
 -- What the pass over the bytes of a basic or an aggregate view finds. Assumes nothing: these are definitions.
-use Rattle.std.specs.Prelude.{◌≡◌, Bool, true, false, List, ℕ, ◌+◌, ℤ, get_or}
+use Rattle.std.specs.Prelude.{◌≡◌, Bool, true, false, List, ℕ, suc, ◌+◌, get_or, Result, Ok, Err}
+use Rattle.text.specs.declared.refusal.Reason.{Reason}
 use Rattle.meaning.specs.Syntax.{Expr}
 use Rattle.language.specs.Reading.{Reader, Open, ◌>>=◌, byte_if, read_e, read_c}
 use Rattle.language.specs.Draft.{Draft, Item, relation_count}
@@ -8,6 +9,7 @@ use Rattle.catalog.specs.Frames.{froms_in}
 use Rattle.catalog.specs.Items.{items_of, relations_in, open_in}
 use Rattle.checker.specs.Faults.{fault_at, first, under}
 use Rattle.checker.specs.Catalogued.{Catalogued}
+use Rattle.catalog.specs.declared.relation.Relation.{Relation}
 
 -- ---- the parts of the two frames, what they read aside
 
@@ -53,7 +55,15 @@ abbrev pub own_frame : Bool → Draft → Reader Item
 own_frame true d = grouped_frame d
 own_frame false d = basic_frame d
 
--- the first fault of a frame's bytes, whatever the relations before it are: on any bytes and arrays, and for a draft that the arrays stand for
-pub record BytesFault (grouped : Bool) (frame shape : List ℕ) (count r : ℕ) : Type 0 where
-  pub here : r ≡ first (fault_at frame 1 (froms_under count)) (fault_at frame (get_or frame 1 0 + 2) (behind_froms grouped (open_in shape count (relations_in (items_of (froms_in frame))))))
-  pub at : (d : Draft) (ends : List ℤ) → Catalogued d shape ends → count ≡ relation_count d → r ≡ fault_at frame 1 (own_frame grouped d)
+-- the first fault of a frame's bytes, whatever the relations before it are: on any bytes and relations, and for a draft that the relations stand for
+pub record BytesFault (grouped : Bool) (frame : List ℕ) (relations : List Relation) (count r : ℕ) : Type 0 where
+  pub here : r ≡ first (fault_at frame 1 (froms_under count)) (fault_at frame (get_or frame 1 0 + 2) (behind_froms grouped (open_in relations count (relations_in (items_of (froms_in frame))))))
+  pub at : (d : Draft) → Catalogued d relations → count ≡ relation_count d → r ≡ fault_at frame 1 (own_frame grouped d)
+
+-- ---- a form n times
+
+-- what n calls from `at` on give, where `call` says what one call at a place may give: each goes on where the one before ended, up to the first refusal
+pub data Times (call : ℕ → Result ℕ Reason → Type 0) : ℕ → ℕ → Result ℕ Reason → Type 0 where
+  none : {at : ℕ} → Times call at 0 (Ok at)
+  more : {at next n : ℕ} {r : Result ℕ Reason} → call at (Ok next) → Times call next n r → Times call at (suc n) r
+  stop : {at n : ℕ} {e : Reason} → call at (Err e) → Times call at (suc n) (Err e)

@@ -1,22 +1,20 @@
-// What a frame without fault adds to the arrays, and the number of candidates.
-ghost use Rattle.std.specs.Prelude.{◌≡◌, cond, ◌+◌, ◌*◌, ◌≤◌, min};
+// The relation that a frame without fault adds, and the number of candidates.
+ghost use Rattle.std.specs.Prelude.{◌≡◌, ◌+◌, ◌*◌, ◌≤◌, min};
 ghost use Rattle.value.specs.Machine.{column_of};
 ghost use Rattle.meaning.specs.Bounds.{set_bound};
-ghost use Rattle.catalog.specs.Arrays.{width_at, bound_at, put_shape, put_ranges};
-ghost use Rattle.checker.specs.Entries.{column_from, column_in, put_hulls, TableEntered, SetEntered};
-ghost use Rattle.checker.specs.FixedFaults.{set_operation};
+ghost use Rattle.catalog.specs.Relations.{width_at, bound_at};
+ghost use Rattle.checker.specs.Entries.{column_from, column_in, hull_at, joined_with, RangesBy, TableOf, SetOf};
+ghost use Rattle.catalog.specs.Kinds.{operation_of};
 ghost use Rattle.checker.specs.CandidateCount.{too_many, capped_product, columns_from, table_cells, CandidatesOf};
 
 use catalog::frames::{COLUMNS, SetParts};
-use catalog::{arrays, frames};
+use catalog::kind::SetOperation;
+use catalog::relation::Relation;
+use catalog::{frames, relation};
 use range::Range;
 use slice::item_at;
 use value::domain::Domain;
 use value::integer;
-
-const TABLE: u8 = 1;
-
-const VIEW: u8 = 2;
 
 // The largest number of candidates that a file may have, 2^24.
 pub const CANDIDATE_LIMIT: u64 = 16777216;
@@ -42,103 +40,95 @@ fn column_in(frame: &[u8], c: u8) -> Range
     Range::column(column.lo, column.hi)
 }
 
-// The columns of a table's frame as relation r's.
-fn put_columns(frame: &[u8], ends: &mut [i32], r: u8, width: u8)
-    ensures { ends.new ≡ put_ranges (column_in frame.now) ends.old r width }
+// The ranges of the first n columns, of at most eight.
+fn ranges_by<F: Fn(u8) -> Range>(n: u8, range: F) -> [Range; 8]
+    requires { F.IsAlwaysCallable range }
+    ensures { RangesBy (F.post range) n result }
 {
-    for c in 0..width {
-        arrays::put_range(ends, r, c, column_in(frame, c));
+    let mut ranges = [Range { lo: 0, hi: 0 }; 8];
+    for c in 0..n {
+        slice::put_item(&mut ranges, c as usize, range(c));
     }
+    ranges
 }
 
-// The table of a frame without fault as relation r.
-// Refused: the number of columns as row bound; its ranges as relation 0's.
-pub(crate) fn enter_table(frame: &[u8], shape: &mut [u8], ends: &mut [i32], r: u8)
-    ensures { TableEntered frame.now r shape.old ends.old shape.new ends.new }
+// The table of a frame without fault.
+// Refused: the number of columns as row bound; the first column's range for each.
+pub(crate) fn table_of(frame: &[u8]) -> Relation
+    ensures { TableOf frame.now result }
 {
     let parts = frames::table_parts(frame);
-    put_columns(frame, ends, r, parts.width);
-    arrays::put_shape(shape, r, TABLE, parts.width, parts.rows, parts.mask);
-}
-
-// A view as relation r, whose ranges are already stored.
-// Refused: a table; the number of columns as row bound.
-pub(crate) fn enter_view(shape: &mut [u8], r: u8, width: u8, bound: u8)
-    ensures { shape.new ≡ put_shape shape.old r 2 width bound 0 }
-{
-    arrays::put_shape(shape, r, VIEW, width, bound, 0);
-}
-
-// The first columns of relation r: the hulls of left's and right's.
-fn put_hulls(shape: &[u8], ends: &mut [i32], left: u8, right: u8, r: u8, width: u8)
-    ensures { ends.new ≡ put_hulls shape.now ends.old left right r width }
-{
-    for c in 0..width {
-        let hull = arrays::range_at(shape, ends, left, c).hull(arrays::range_at(
-            shape, ends, right, c,
-        ));
-        arrays::put_range(ends, r, c, hull);
+    let ranges = ranges_by(parts.width, |c| column_in(frame, c));
+    Relation {
+        width: parts.width,
+        bound: parts.rows,
+        mask: parts.mask,
+        start: 0,
+        ranges,
     }
-}
-
-fn least(a: u8, b: u8) -> u8
-    ensures { result ≡ min a b }
-{
-    if a <= b { a } else { b }
 }
 
 // The row bound of a union or an intersection of relations with the row bounds a and b, at most 255.
-fn joined_bound(union: bool, a: u8, b: u8) -> u8
-    ensures { result ≡ min (set_bound (set_operation union) a b) 255 }
+fn joined_bound(operation: SetOperation, a: u8, b: u8) -> u8
+    ensures { result ≡ min (set_bound (operation_of operation) a b) 255 }
 {
-    if union {
-        a.saturating_add(b)
-    } else {
-        least(a, b)
+    match operation {
+        SetOperation::Union => a.saturating_add(b),
+        SetOperation::Intersection => a.min(b),
     }
 }
 
 // The row bound of a union or an intersection of two relations, at most 255.
 // Refused: the left's row bound twice; the right's twice.
-pub(crate) fn set_bound(union: bool, shape: &[u8], left: u8, right: u8) -> u8
-    ensures { result ≡ min (set_bound (set_operation union) (bound_at shape.now left) (bound_at shape.now right)) 255 }
+pub(crate) fn set_bound(operation: SetOperation, relations: &[Relation], left: u8, right: u8) -> u8
+    ensures { result ≡ min (set_bound (operation_of operation) (bound_at relations.now left) (bound_at relations.now right)) 255 }
 {
-    let a = arrays::bound_of(shape, left);
-    let b = arrays::bound_of(shape, right);
-    joined_bound(union, a, b)
-}
-
-// The number of columns of the narrower of two relations.
-fn common_width(shape: &[u8], left: u8, right: u8) -> u8
-    ensures { result ≡ min (width_at shape.now left) (width_at shape.now right) }
-{
-    let v = arrays::width_of(shape, left);
-    let w = arrays::width_of(shape, right);
-    least(v, w)
+    let a = relation::bound_of(relations, left);
+    let b = relation::bound_of(relations, right);
+    joined_bound(operation, a, b)
 }
 
 // Whose ranges join the left's in hulls: an intersection keeps the left's, and the hull of a range with itself is that range.
-fn joined_with(union: bool, left: u8, right: u8) -> u8
-    ensures { result ≡ cond union right left }
+fn joined_with(operation: SetOperation, left: u8, right: u8) -> u8
+    ensures { result ≡ joined_with (operation_of operation) left right }
 {
-    if union { right } else { left }
+    match operation {
+        SetOperation::Union => right,
+        SetOperation::Intersection => left,
+    }
 }
 
-// A set view as relation r: the columns of the narrower, for the fault of unequal widths is found elsewhere.
+// The hull of a column of two relations.
+fn hull_at(relations: &[Relation], left: u8, right: u8, c: u8) -> Range
+    ensures { result ≡ hull_at relations.now left right c }
+{
+    relation::range_at(relations, left, c).hull(relation::range_at(relations, right, c))
+}
+
+// A set view: the columns of the narrower, for the fault of unequal widths is found elsewhere.
 // Refused: the left's row bound twice; hulls for an intersection.
-pub(crate) fn enter_set(union: bool, operands: SetParts, shape: &mut [u8], ends: &mut [i32], r: u8)
-    ensures { SetEntered (set_operation union) operands.left operands.right r shape.old ends.old shape.new ends.new }
+pub(crate) fn set_of(
+    operation: SetOperation,
+    operands: SetParts,
+    relations: &[Relation],
+) -> Relation
+    ensures { SetOf (operation_of operation) operands.left operands.right relations.now result }
 {
     let left = operands.left;
     let right = operands.right;
-    let other = joined_with(union, left, right);
-    let width = common_width(shape, left, other);
-    let bound = set_bound(union, shape, left, right);
-    put_hulls(shape, ends, left, other, r, width);
-    enter_view(shape, r, width, bound);
+    let other = joined_with(operation, left, right);
+    let width = relation::width_of(relations, left).min(relation::width_of(relations, other));
+    let ranges = ranges_by(width, |c| hull_at(relations, left, other, c));
+    Relation {
+        width,
+        bound: set_bound(operation, relations, left, right),
+        mask: 0,
+        start: 0,
+        ranges,
+    }
 }
 
-// The product, or TOO_MANY where it is larger.
+// The product, or TOO_MANY where it is larger. It saturates, so a product that is too large stays too large; an Option would need more laws.
 fn capped(n: u64, m: u32) -> u64
     requires { n ≤ too_many }
     ensures { result ≡ min (n * m) too_many }
@@ -148,39 +138,39 @@ fn capped(n: u64, m: u32) -> u64
 }
 
 // n times the sizes of the columns of a table.
-fn times_row(shape: &[u8], ends: &[i32], t: u8, n: u64) -> u64
+fn times_row(relations: &[Relation], t: u8, n: u64) -> u64
     requires { n ≤ too_many }
-    ensures { (result ≡ capped_product n (columns_from shape.now ends.now t 0 (width_at shape.now t))) × (result ≤ too_many) }
+    ensures { (result ≡ capped_product n (columns_from relations.now t 0 (width_at relations.now t))) × (result ≤ too_many) }
 {
-    let width = arrays::width_of(shape, t);
+    let width = relation::width_of(relations, t);
     let mut p = n;
     for c in 0..width {
-        p = capped(p, arrays::domain_of(shape, ends, t, c).size());
+        p = capped(p, relation::domain_of(relations, t, c).size());
     }
     p
 }
 
 // n times the sizes of a table's cells.
-fn times_table(shape: &[u8], ends: &[i32], t: u8, n: u64) -> u64
+fn times_table(relations: &[Relation], t: u8, n: u64) -> u64
     requires { n ≤ too_many }
-    ensures { (result ≡ capped_product n (table_cells shape.now ends.now t)) × (result ≤ too_many) }
+    ensures { (result ≡ capped_product n (table_cells relations.now t)) × (result ≤ too_many) }
 {
-    let rows = arrays::bound_of(shape, t);
+    let rows = relation::bound_of(relations, t);
     let mut p = n;
     for _ in 0..rows {
-        p = times_row(shape, ends, t, p);
+        p = times_row(relations, t, p);
     }
     p
 }
 
 // The number of candidates of a file's tables, the first relations, if it is not too large.
 // Refused: 0 with no cells; the first table counted for each.
-pub(crate) fn candidates_of(shape: &[u8], ends: &[i32], tables: u8) -> Option<u64>
-    ensures { CandidatesOf shape.now ends.now tables result }
+pub(crate) fn candidates_of(relations: &[Relation], tables: u8) -> Option<u64>
+    ensures { CandidatesOf relations.now tables result }
 {
     let mut p: u64 = 1;
     for t in 0..tables {
-        p = times_table(shape, ends, t, p);
+        p = times_table(relations, t, p);
     }
     if p <= CANDIDATE_LIMIT { Some(p) } else { None }
 }

@@ -3,19 +3,22 @@ ghost use Rattle.std.specs.Prelude.{◌≡◌, ◌+◌, ◌^◌, ◌<◌, min, g
 ghost use Rattle.value.specs.Integer.{bytes_z};
 ghost use Rattle.language.specs.Frames.{column_field, pair_field};
 ghost use Rattle.catalog.specs.Frames.{columns_start};
+ghost use Rattle.catalog.specs.Kinds.{operation_of};
 ghost use Rattle.checker.specs.Faults.{fault_at, fault_told};
 ghost use Rattle.checker.specs.FixedFaults.{columns_fault, table_head, table_columns, pairs_fault, parent_count, column_pairing, pairing, key_head, key_pairs, key_body};
-ghost use Rattle.checker.specs.FixedFaults.{set_operation, set_bytes, set_rules, TableFault, KeyFault, SetFault, GoalFault};
+ghost use Rattle.checker.specs.FixedFaults.{set_bytes, set_rules, TableFault, KeyFault, SetFault, GoalFault};
 
 use super::{entries, fields};
-use catalog::arrays;
 use catalog::frames::COLUMNS;
+use catalog::kind::SetOperation;
+use catalog::relation;
+use catalog::relation::Relation;
 use text::refusal::Reason;
 use value::{boolean, integer};
 
 // ---- 01 table
 
-// The number of key masks of n columns; more than 4 are refused before.
+// The number of key masks of n columns; more than 4 are refused before. This table is the definition itself, so a shift would say no more.
 fn masks_of(n: u8) -> u8
     ensures { result ≡ 2 ^ min n 4 }
 {
@@ -29,14 +32,14 @@ fn masks_of(n: u8) -> u8
 }
 
 // Two bytes, high byte first.
-fn number_at(frame: &[u8], at: usize) -> i32
+fn number_at(frame: &[u8], at: usize) -> i16
     requires { at < 65540 }
     ensures { result ≡ bytes_z (get_or frame.now at 0) (get_or frame.now (at + 1) 0) }
 {
-    i32::from(integer::from_bytes(
+    integer::from_bytes(
         slice::item_at(frame, at, 0),
         slice::item_at(frame, at + 1, 0),
-    ))
+    )
 }
 
 // The lo and hi of a column.
@@ -126,7 +129,8 @@ fn column_pairing(frame: &[u8], n: u8, i: u8, mask: u8) -> Result<(), Reason>
     }
 }
 
-// Each of `width` columns is a parent column as often as it is in the key.
+// Each of `width` columns is a parent column as often as it is in the key. The mask is halved, for a shift by i fails where a width, which any byte
+// may be, is above 8.
 fn pairing_fault(frame: &[u8], n: u8, width: u8, mask: u8) -> Result<(), Reason>
     ensures { fault_told result ≡ pairing frame.now n 0 width mask }
 {
@@ -156,25 +160,31 @@ fn key_pairs(frame: &[u8], c: u8, p: u8, n: u8) -> Result<(), Reason>
 }
 
 // The n pairs, and then the rule on the parent's key.
-fn key_body(frame: &[u8], shape: &[u8], child: u8, parent: u8, n: u8) -> Result<(), Reason>
-    ensures { fault_told result ≡ key_body frame.now shape.now child parent n }
+fn key_body(
+    frame: &[u8],
+    relations: &[Relation],
+    child: u8,
+    parent: u8,
+    n: u8,
+) -> Result<(), Reason>
+    ensures { fault_told result ≡ key_body frame.now relations.now child parent n }
 {
-    let c = arrays::width_of(shape, child);
-    let p = arrays::width_of(shape, parent);
+    let c = relation::width_of(relations, child);
+    let p = relation::width_of(relations, parent);
     key_pairs(frame, c, p, n)?;
-    pairing_fault(frame, n, p, arrays::mask_of(shape, parent))
+    pairing_fault(frame, n, p, relation::mask_of(relations, parent))
 }
 
 // The fault of a foreign key's frame.
 // Refused: the parent as child; the pairs before the tables.
-pub(crate) fn key_fault(frame: &[u8], shape: &[u8], tables: u8) -> Result<(), Reason>
-    ensures { KeyFault frame.now shape.now tables (fault_told result) }
+pub(crate) fn key_fault(frame: &[u8], relations: &[Relation], tables: u8) -> Result<(), Reason>
+    ensures { KeyFault frame.now relations.now tables (fault_told result) }
 {
     let child = slice::item_at(frame, 1, 0);
     let parent = slice::item_at(frame, 2, 0);
     let n = slice::item_at(frame, 3, 0);
     key_head(frame, tables)?;
-    key_body(frame, shape, child, parent, n)
+    key_body(frame, relations, child, parent, n)
 }
 
 // ---- 05 union, 06 intersection
@@ -189,13 +199,13 @@ fn set_bytes(frame: &[u8], tables: u8, relations: u8) -> Result<(), Reason>
 }
 
 // The rules on a set view of two relations.
-fn set_rules(union: bool, shape: &[u8], i: u8, j: u8) -> Result<(), Reason>
-    ensures { fault_told result ≡ set_rules (set_operation union) shape.now i j }
+fn set_rules(operation: SetOperation, relations: &[Relation], i: u8, j: u8) -> Result<(), Reason>
+    ensures { fault_told result ≡ set_rules (operation_of operation) relations.now i j }
 {
-    if arrays::width_of(shape, i) != arrays::width_of(shape, j) {
+    if relation::width_of(relations, i) != relation::width_of(relations, j) {
         return Err(Reason::Reference);
     }
-    if entries::set_bound(union, shape, i, j) <= 64 {
+    if entries::set_bound(operation, relations, i, j) <= 64 {
         Ok(())
     } else {
         Err(Reason::RowBound)
@@ -206,17 +216,17 @@ fn set_rules(union: bool, shape: &[u8], i: u8, j: u8) -> Result<(), Reason>
 // Refused: the right operand as left; the rules before the bytes.
 pub(crate) fn set_fault(
     frame: &[u8],
-    shape: &[u8],
+    relations: &[Relation],
     tables: u8,
     count: u8,
-    union: bool,
+    operation: SetOperation,
 ) -> Result<(), Reason>
-    ensures { SetFault frame.now shape.now tables count (set_operation union) (fault_told result) }
+    ensures { SetFault frame.now relations.now tables count (operation_of operation) (fault_told result) }
 {
     let i = slice::item_at(frame, 1, 0);
     let j = slice::item_at(frame, 2, 0);
     set_bytes(frame, tables, count)?;
-    set_rules(union, shape, i, j)
+    set_rules(operation, relations, i, j)
 }
 
 // ---- 07 goal

@@ -7,14 +7,15 @@ use super::state::{Progress, Stage};
 use super::{entries, step};
 use catalog::outline::Outline;
 use catalog::plan::{Goal, Plan};
-use catalog::{arrays, frames, outline};
+use catalog::relation::Relation;
+use catalog::{frames, outline, relation};
 use text;
 use text::refusal::{Reason, Refusal};
 
 // The frames of packed bytes, in turn. The loop counts by hand, for a turn goes on by the length of a frame.
-fn walk(packed: &[u8], shape: &mut [u8], ends: &mut [i32]) -> Result<Progress, Refusal>
+fn walk(packed: &[u8], relations: &mut [Relation]) -> Result<Progress, Refusal>
     requires { length packed.now ≤ 5462 }
-    ensures { Walks packed.now shape.old ends.old result shape.new ends.new }
+    ensures { Walks packed.now relations.old result relations.new }
 {
     let mut s = Progress::start();
     let mut at = 0;
@@ -22,7 +23,7 @@ fn walk(packed: &[u8], shape: &mut [u8], ends: &mut [i32]) -> Result<Progress, R
     while at < packed.len() {
         line = line + 1;
         let frame = frames::frame_at(packed, at);
-        s = match step::frame_step(frame, shape, ends, s) {
+        s = match step::frame_step(frame, relations, s) {
             Ok(next) => next,
             Err(reason) => return Err(reason.at(line)),
         };
@@ -55,21 +56,21 @@ fn frame_number(tables: u8, keys: u8, r: u8) -> u16
 }
 
 // The place of each relation's frame is noted.
-fn put_starts(bytes: &[u8], tables: u8, keys: u8, shape: &mut [u8])
-    ensures { StartsPut bytes.now tables keys 16 shape.old shape.new }
+fn put_starts(bytes: &[u8], tables: u8, keys: u8, relations: &mut [Relation])
+    ensures { StartsPut bytes.now tables keys 16 relations.old relations.new }
 {
     for r in 0..16 {
         let start = place_behind(bytes, frame_number(tables, keys, r));
-        arrays::put_start(shape, r, start);
+        relation::put_start(relations, r, start as usize);
     }
 }
 
-// What the evaluation needs beside the arrays, from what was counted.
-fn outline_from(bytes: &[u8], shape: &[u8], s: Progress) -> Outline
-    ensures { OutlineFrom bytes.now shape.now s result }
+// What the evaluation needs beside the relations, from what was counted.
+fn outline_from(bytes: &[u8], relations: &[Relation], s: Progress) -> Outline
+    ensures { OutlineFrom bytes.now relations.now s result }
 {
     let foreign = place_behind(bytes, s.tables as u16);
-    let filled = outline::some_row(shape, s.tables);
+    let filled = outline::some_row(relations, s.tables);
     Outline {
         tables: s.tables,
         keys: s.keys,
@@ -83,14 +84,13 @@ fn outline_from(bytes: &[u8], shape: &[u8], s: Progress) -> Outline
 fn plan_from(
     bytes: [u8; text::ROOM],
     s: Progress,
-    shape: [u8; 128],
-    ends: [i32; 256],
+    relations: [Relation; 16],
     candidates: u64,
 ) -> Plan
-    ensures { PlanFrom bytes s shape ends candidates result }
+    ensures { PlanFrom bytes s relations candidates result }
 {
-    let outline = outline_from(&bytes, &shape, s);
-    let mut located = shape;
+    let outline = outline_from(&bytes, &relations, s);
+    let mut located = relations;
     put_starts(&bytes, s.tables, s.keys, &mut located);
     let goal = Goal {
         view: s.goal,
@@ -98,8 +98,7 @@ fn plan_from(
     };
     Plan {
         bytes: bytes,
-        shape: located,
-        ends: ends,
+        relations: located,
         outline: outline,
         goal: goal,
         candidates: candidates,
@@ -110,18 +109,17 @@ fn plan_from(
 fn plan_whole(
     bytes: [u8; text::ROOM],
     s: Progress,
-    shape: [u8; 128],
-    ends: [i32; 256],
+    relations: [Relation; 16],
 ) -> Result<Plan, Refusal>
-    ensures { PlansWhole bytes s shape ends result }
+    ensures { PlansWhole bytes s relations result }
 {
     let Stage::Ended = s.stage else {
         return Err(Reason::Order.at(0));
     };
-    let Some(n) = entries::candidates_of(&shape, &ends, s.tables) else {
+    let Some(n) = entries::candidates_of(&relations, s.tables) else {
         return Err(Reason::Candidates.at(0));
     };
-    Ok(plan_from(bytes, s, shape, ends, n))
+    Ok(plan_from(bytes, s, relations, n))
 }
 
 // The plan of the file that a text means, or its refusal by 1 to 10 with its line.
@@ -132,8 +130,7 @@ pub fn check(text: &[u8]) -> Result<Plan, Refusal>
     let frames = text::decode(text)?;
     let bytes = frames.bytes;
     let used = frames.used;
-    let mut shape = [0u8; 128];
-    let mut ends = [0i32; 256];
-    let s = walk(&bytes[..used], &mut shape, &mut ends)?;
-    plan_whole(bytes, s, shape, ends)
+    let mut relations = [Relation::none(); 16];
+    let s = walk(&bytes[..used], &mut relations)?;
+    plan_whole(bytes, s, relations)
 }

@@ -1,9 +1,11 @@
 // What the checker has counted so far, the stage of the order, and the goal.
-ghost use Rattle.std.specs.Prelude.{◌≡◌};
+ghost use Rattle.std.specs.Prelude.{◌≡◌, Ok, Some};
+ghost use Rattle.catalog.specs.Kinds.{kind_at, number_of};
 ghost use Rattle.language.specs.Draft.{stage_of};
 ghost use Rattle.checker.specs.Faults.{fault_told};
-ghost use Rattle.checker.specs.Standing.{stage_number, stage_told, at_stage, start_progress, room_for, turn_fault, more, with_table, with_key, with_view, with_goal};
+ghost use Rattle.checker.specs.Standing.{stage_number, at_stage, start_progress, room_for, turn_fault, with_table, with_key, with_view, with_goal};
 
+use catalog::kind::Kind;
 use catalog::plan::Goal;
 use text::refusal::Reason;
 
@@ -18,16 +20,15 @@ pub enum Stage {
 }
 
 impl Stage {
-    // Where a kind stands in the order, if it is one.
-    fn of(kind: u8) -> Option<Stage>
-        ensures { stage_told result ≡ stage_of kind }
+    // Where a kind stands in the order.
+    fn of(kind: Kind) -> Stage
+        ensures { stage_number result ≡ stage_of (number_of kind) }
     {
         match kind {
-            1 => Some(Stage::Tables),
-            2 => Some(Stage::Keys),
-            3 | 4 | 5 | 6 => Some(Stage::Views),
-            7 => Some(Stage::Goal),
-            _ => None,
+            Kind::Table => Stage::Tables,
+            Kind::ForeignKey => Stage::Keys,
+            Kind::View(_) | Kind::Set(_) => Stage::Views,
+            Kind::Goal => Stage::Goal,
         }
     }
 
@@ -47,12 +48,6 @@ pub struct Progress {
     pub stage: Stage,
     pub goal: u8,
     pub negative: bool,
-}
-
-fn one_more(n: u8) -> u8
-    ensures { result ≡ more n }
-{
-    if n < 255 { n + 1 } else { 255 }
 }
 
 impl Progress {
@@ -82,19 +77,20 @@ impl Progress {
         }
     }
 
-    // Whether a frame of a kind may come: 3 for a kind unknown or out of order, 5 for a 17th relation or foreign key.
+    // The kind of a frame that begins with a number, if it may come: 3 for a kind unknown or out of order, 5 for a 17th relation or foreign key.
     // Refused: 5 for 3; a 17th relation kept.
-    pub(crate) fn turn(self, kind: u8) -> Result<(), Reason>
-        ensures { fault_told result ≡ turn_fault self kind }
+    pub(crate) fn turn(self, number: u8) -> Result<Kind, Reason>
+        ensures { (fault_told result ≡ turn_fault self number) × ((kind : Kind) → result ≡ Ok kind → kind_at number ≡ Some kind) }
     {
-        let Some(stage) = Stage::of(kind) else {
+        let Some(kind) = Kind::from_number(number) else {
             return Err(Reason::Order);
         };
+        let stage = Stage::of(kind);
         if stage.number() < self.stage.number() {
             return Err(Reason::Order);
         }
         if self.has_room(stage) {
-            Ok(())
+            Ok(kind)
         } else {
             Err(Reason::Limit)
         }
@@ -115,8 +111,8 @@ impl Progress {
         ensures { result ≡ with_table self }
     {
         Progress {
-            tables: one_more(self.tables),
-            relations: one_more(self.relations),
+            tables: self.tables.saturating_add(1),
+            relations: self.relations.saturating_add(1),
             ..self.in_stage(Stage::Tables)
         }
     }
@@ -127,7 +123,7 @@ impl Progress {
         ensures { result ≡ with_key self }
     {
         Progress {
-            keys: one_more(self.keys),
+            keys: self.keys.saturating_add(1),
             ..self.in_stage(Stage::Keys)
         }
     }
@@ -137,7 +133,7 @@ impl Progress {
     pub(crate) fn with_view(self) -> Progress
         ensures { result ≡ with_view self }
     {
-        let relations = one_more(self.relations);
+        let relations = self.relations.saturating_add(1);
         Progress {
             relations: relations,
             ..self.in_stage(Stage::Views)

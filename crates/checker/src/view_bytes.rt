@@ -4,19 +4,16 @@ ghost use Rattle.language.specs.Reading.{byte_if, read_e};
 ghost use Rattle.prefix.specs.Skipped.{skip_told, skipped, open_of};
 ghost use Rattle.catalog.specs.Items.{relations_in, widths_in};
 ghost use Rattle.language.specs.Frames.{repeated, place_field};
+ghost use Rattle.catalog.specs.Kinds.{groups_rows};
 ghost use Rattle.checker.specs.Faults.{fault_at, fault_told, under};
-ghost use Rattle.checker.specs.ViewFaults.{froms_under, select_end, condition_select, where_groups, counted_select, counted_where, counted_groups, behind_froms, BytesFault};
+ghost use Rattle.checker.specs.ViewFaults.{froms_under, select_end, condition_select, where_groups, counted_select, counted_where, counted_groups, behind_froms, BytesFault, Times};
 
 use crate::fields;
 use catalog::items::from_items;
+use catalog::kind::ViewKind;
+use catalog::relation::Relation;
 use prefix::{Reader, Setting};
 use text::refusal::Reason;
-
-fn wide(x: u8) -> usize
-    ensures { result ≡ x }
-{
-    x as usize
-}
 
 // The n relations of a from list, each below `count`.
 fn relations(frame: &[u8], n: u8, count: u8) -> Result<(), Reason>
@@ -37,34 +34,42 @@ fn from_list(frame: &[u8], count: u8) -> Result<(), Reason>
     relations(frame, n, count)
 }
 
-// Where n expressions end.
-fn expressions(reader: &Reader, at: usize, n: u8) -> Result<usize, Reason>
-    requires { at ≤ length reader.now.frame.now }
-    ensures { skip_told result ≡ skipped reader.now.frame.now at (repeated n (read_e (open_of reader.now.shape.now reader.now.setting))) }
+// Where n forms end that stand one behind the other.
+fn repeated<F: Fn(usize) -> Result<usize, Reason>>(
+    at: usize,
+    n: u8,
+    form: F,
+) -> Result<usize, Reason>
+    requires { F.IsAlwaysCallable form }
+    ensures { Times (F.post form) at n result }
 {
     let mut next = at;
     for _ in 0..n {
-        next = reader.expression(next)?;
+        next = form(next)?;
     }
     Ok(next)
+}
+
+// Where n expressions end.
+fn expressions(reader: &Reader, at: usize, n: u8) -> Result<usize, Reason>
+    requires { at ≤ length reader.now.frame.now }
+    ensures { skip_told result ≡ skipped reader.now.frame.now at (repeated n (read_e (open_of reader.now.relations.now reader.now.setting))) }
+{
+    repeated(at, n, |place| reader.expression(place))
 }
 
 // Where n grouping columns end.
 fn places(reader: &Reader, at: usize, n: u8) -> Result<usize, Reason>
     requires { at ≤ length reader.now.frame.now }
-    ensures { skip_told result ≡ skipped reader.now.frame.now at (repeated n (place_field (widths_in reader.now.shape.now (relations_in reader.now.setting.items)))) }
+    ensures { skip_told result ≡ skipped reader.now.frame.now at (repeated n (place_field (widths_in reader.now.relations.now (relations_in reader.now.setting.items)))) }
 {
-    let mut next = at;
-    for _ in 0..n {
-        next = reader.place(next)?;
-    }
-    Ok(next)
+    repeated(at, n, |place| reader.place(place))
 }
 
 // m select expressions, and nothing behind them.
 fn select_end(reader: &Reader, at: usize, m: u8) -> Result<(), Reason>
     requires { at ≤ length reader.now.frame.now }
-    ensures { fault_told result ≡ fault_at reader.now.frame.now at (select_end (open_of reader.now.shape.now reader.now.setting) m) }
+    ensures { fault_told result ≡ fault_at reader.now.frame.now at (select_end (open_of reader.now.relations.now reader.now.setting) m) }
 {
     let next = expressions(reader, at, m)?;
     fields::ends_at(reader.frame, next)
@@ -72,7 +77,7 @@ fn select_end(reader: &Reader, at: usize, m: u8) -> Result<(), Reason>
 
 // A condition, and then the select expressions.
 fn condition_select(reader: &Reader, at: usize, m: u8) -> Result<(), Reason>
-    ensures { fault_told result ≡ fault_at reader.now.frame.now at (condition_select (open_of reader.now.shape.now reader.now.setting) m) }
+    ensures { fault_told result ≡ fault_at reader.now.frame.now at (condition_select (open_of reader.now.relations.now reader.now.setting) m) }
 {
     let next = reader.condition(at)?;
     select_end(reader, next, m)
@@ -80,7 +85,7 @@ fn condition_select(reader: &Reader, at: usize, m: u8) -> Result<(), Reason>
 
 // A where condition, g grouping columns, and then having and the select expressions.
 fn where_groups(reader: &Reader, at: usize, g: u8, m: u8) -> Result<(), Reason>
-    ensures { fault_told result ≡ fault_at reader.now.frame.now at (where_groups (open_of reader.now.shape.now reader.now.setting) g m) }
+    ensures { fault_told result ≡ fault_at reader.now.frame.now at (where_groups (open_of reader.now.relations.now reader.now.setting) g m) }
 {
     let next = reader.condition(at)?;
     let having = places(reader, next, g)?;
@@ -90,7 +95,7 @@ fn where_groups(reader: &Reader, at: usize, g: u8, m: u8) -> Result<(), Reason>
 // The select count, and then a condition and so many select expressions.
 fn counted_select(reader: &Reader, at: usize) -> Result<(), Reason>
     requires { at ≤ 65536 }
-    ensures { fault_told result ≡ fault_at reader.now.frame.now at (counted_select (open_of reader.now.shape.now reader.now.setting)) }
+    ensures { fault_told result ≡ fault_at reader.now.frame.now at (counted_select (open_of reader.now.relations.now reader.now.setting)) }
 {
     let m = slice::item_at(reader.frame, at, 0);
     fields::between(reader.frame, at, Reason::Limit, 1, 8)?;
@@ -100,7 +105,7 @@ fn counted_select(reader: &Reader, at: usize) -> Result<(), Reason>
 // The select count, and then the rest of an aggregate view with g grouping columns.
 fn counted_where(reader: &Reader, at: usize, g: u8) -> Result<(), Reason>
     requires { at ≤ 65536 }
-    ensures { fault_told result ≡ fault_at reader.now.frame.now at (counted_where (open_of reader.now.shape.now reader.now.setting) g) }
+    ensures { fault_told result ≡ fault_at reader.now.frame.now at (counted_where (open_of reader.now.relations.now reader.now.setting) g) }
 {
     let frame = reader.frame;
     let m = slice::item_at(frame, at, 0);
@@ -111,7 +116,7 @@ fn counted_where(reader: &Reader, at: usize, g: u8) -> Result<(), Reason>
 // The grouping count, the select count and the rest of an aggregate view.
 fn counted_groups(reader: &Reader, at: usize) -> Result<(), Reason>
     requires { at ≤ 65535 }
-    ensures { fault_told result ≡ fault_at reader.now.frame.now at (counted_groups (open_of reader.now.shape.now reader.now.setting)) }
+    ensures { fault_told result ≡ fault_at reader.now.frame.now at (counted_groups (open_of reader.now.relations.now reader.now.setting)) }
 {
     let g = slice::item_at(reader.frame, at, 0);
     fields::between(reader.frame, at, Reason::Limit, 0, 4)?;
@@ -119,14 +124,13 @@ fn counted_groups(reader: &Reader, at: usize) -> Result<(), Reason>
 }
 
 // What stands behind the from list of an aggregate or of a basic view.
-fn behind_froms(reader: &Reader, at: usize, grouped: bool) -> Result<(), Reason>
+fn behind_froms(reader: &Reader, at: usize, kind: ViewKind) -> Result<(), Reason>
     requires { at ≤ 65535 }
-    ensures { fault_told result ≡ fault_at reader.now.frame.now at (behind_froms grouped (open_of reader.now.shape.now reader.now.setting)) }
+    ensures { fault_told result ≡ fault_at reader.now.frame.now at (behind_froms (groups_rows kind) (open_of reader.now.relations.now reader.now.setting)) }
 {
-    if grouped {
-        counted_groups(reader, at)
-    } else {
-        counted_select(reader, at)
+    match kind {
+        ViewKind::Basic => counted_select(reader, at),
+        ViewKind::Aggregate => counted_groups(reader, at),
     }
 }
 
@@ -134,22 +138,22 @@ fn behind_froms(reader: &Reader, at: usize, grouped: bool) -> Result<(), Reason>
 // Refused: the from list behind the rest; the bytes of a basic view for an aggregate one.
 pub(crate) fn bytes_fault(
     frame: &[u8],
-    shape: &[u8],
+    relations: &[Relation],
     count: u8,
-    grouped: bool,
+    kind: ViewKind,
 ) -> Result<(), Reason>
-    ensures { BytesFault grouped frame.now shape.now count (fault_told result) }
+    ensures { BytesFault (groups_rows kind) frame.now relations.now count (fault_told result) }
 {
-    let at = wide(slice::item_at(frame, 1, 0)) + 2;
+    let at = usize::from(slice::item_at(frame, 1, 0)) + 2;
     let setting = Setting {
         items: from_items(frame),
         earlier: count,
     };
     let reader = Reader {
-        frame: frame,
-        shape: shape,
-        setting: setting,
+        frame,
+        relations,
+        setting,
     };
     from_list(frame, count)?;
-    behind_froms(&reader, at, grouped)
+    behind_froms(&reader, at, kind)
 }

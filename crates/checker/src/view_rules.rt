@@ -2,29 +2,18 @@
 ghost use Rattle.std.specs.Prelude.{◌≡◌, true, false, ◌&&◌, ◌≤◌, length, drop};
 ghost use Rattle.catalog.specs.Items.{relations_in};
 ghost use Rattle.bounds.specs.Walk.{is_within, TestsC};
-ghost use Rattle.checker.specs.ViewRules.{put_ranged, factor_at, view_fault, plain_rule, ProductBound, Selects, Tail, OpeningOf, Rules, RulesFrom};
+ghost use Rattle.checker.specs.ViewRules.{factor_at, view_fault, plain_rule, ProductBound, Selects, Tail, OpeningOf, Rules, RulesFrom};
 ghost use Rattle.checker.specs.Faults.{fault_told};
+ghost use Rattle.catalog.specs.Kinds.{groups_rows};
 
 use bounds::{Part, Rule, Scope, Tested};
 use catalog::frames::Parts;
-use catalog::items::{Items, from_items, relation};
-use catalog::{arrays, frames};
+use catalog::items::{Items, from_items};
+use catalog::kind::ViewKind;
+use catalog::relation::Relation;
+use catalog::{frames, relation};
 use range::Range;
 use text::refusal::Reason;
-
-// The row bound of a view and its number of columns.
-#[derive(Clone, Copy)]
-pub struct Ruled {
-    pub bound: u8,
-    pub width: u8,
-}
-
-// The select expressions of a view: how many there are, and the rule on them.
-#[derive(Clone, Copy)]
-struct SelectList {
-    count: u8,
-    rule: Rule,
-}
 
 // What a view's frame begins with: its from items, its counts, its row bound, and what its where tells.
 #[derive(Clone, Copy)]
@@ -35,82 +24,55 @@ struct Opening {
     filter: Tested,
 }
 
-// Of the select expressions: whether the rule on 07 is kept, and whether every range inside them fits 32 bits.
+// Of the select expressions: the ranges that fit, whether the rule on 07 is kept, and whether every range inside them fits 32 bits.
 #[derive(Clone, Copy)]
 struct Selected {
+    ranges: [Range; 8],
     allowed: bool,
     within: bool,
 }
 
 // The row bound of from item i, 1 past the last.
-fn factor(items: Items, shape: &[u8], i: u8) -> u8
-    ensures { result ≡ factor_at shape.now (relations_in items) i }
+fn factor(items: Items, relations: &[Relation], i: u8) -> u8
+    ensures { result ≡ factor_at relations.now (relations_in items) i }
 {
     if i < items.number {
-        return arrays::bound_of(shape, relation(items, i));
+        return relation::bound_of(relations, items.relation(i));
     }
     1
 }
 
 // The product of the row bounds of up to 3 from items.
-fn product_bound(items: Items, shape: &[u8]) -> u32
-    ensures { ProductBound shape.now (relations_in items) result }
+fn product_bound(items: Items, relations: &[Relation]) -> u32
+    ensures { ProductBound relations.now (relations_in items) result }
 {
-    let a = factor(items, shape, 0) as u32;
-    let b = factor(items, shape, 1) as u32;
-    let c = factor(items, shape, 2) as u32;
+    let a = factor(items, relations, 0) as u32;
+    let b = factor(items, relations, 1) as u32;
+    let c = factor(items, relations, 2) as u32;
     a * b * c
 }
 
-// Column c of relation r, if its range fits; and whether it does.
-fn store(ends: &mut [i32], r: u8, c: u8, x: Option<Range>) -> bool
-    ensures { (result ≡ is_within x) × (ends.new ≡ put_ranged ends.old r c x) }
+// The first `count` select expressions from `start` on.
+fn selects(scope: &Scope, start: usize, count: u8) -> Selected
+    ensures { Selects scope.now.frame.now start count (relations_in scope.now.items) scope.now.relations.now scope.now.rule result }
 {
-    match x {
-        Some(range) => {
-            arrays::put_range(ends, r, c, range);
-            true
-        }
-        None => false,
-    }
-}
-
-// The select expressions from `start` on, as the columns of relation r.
-fn selects(
-    frame: &[u8],
-    start: usize,
-    list: SelectList,
-    items: Items,
-    shape: &[u8],
-    ends: &mut [i32],
-    r: u8,
-) -> Selected
-    ensures { Selects frame.now start list.count (relations_in items) shape.now ends.old r list.rule ends.new result.allowed result.within }
-{
-    let rule = list.rule;
-    let count = list.count;
-    let mut at = start;
+    let mut ranges = [Range { lo: 0, hi: 0 }; 8];
     let mut allowed = true;
     let mut within = true;
-    let mut c: u8 = 0;
-    while c < count {
-        let scope = Scope {
-            frame,
-            items,
-            shape,
-            ends,
-            rule,
-        };
+    let mut at = start;
+    for c in 0..count {
         let e = scope.expression(at);
-        let fits = store(ends, r, c, e.range);
+        match e.range {
+            Some(range) => slice::put_item(&mut ranges, c as usize, range),
+            None => within = false,
+        }
         allowed = allowed & e.allowed;
-        within = within & fits;
         at = e.next;
-        c += 1;
     }
     Selected {
-        allowed: allowed,
-        within: within,
+        ranges,
+        allowed,
+        within,
     }
 }
 
@@ -127,26 +89,20 @@ fn rules_fault(allowed: bool, bound: u32, within: bool) -> Result<(), Reason>
     if within { Ok(()) } else { Err(Reason::Range) }
 }
 
-// The answer for a view whose conditions are `head`, which the select expressions follow.
-fn tail(
-    frame: &[u8],
-    head: Tested,
-    list: SelectList,
-    items: Items,
-    shape: &[u8],
-    ends: &mut [i32],
-    r: u8,
-) -> Result<Ruled, Reason>
-    ensures { Tail frame.now head list.count (relations_in items) shape.now ends.old r list.rule ends.new result }
+// The answer for a view whose conditions are `head`, which `count` select expressions follow.
+fn tail(scope: &Scope, head: Tested, count: u8) -> Result<Relation, Reason>
+    ensures { Tail scope.now.frame.now head count (relations_in scope.now.items) scope.now.relations.now scope.now.rule result }
 {
-    let rule = list.rule;
-    let s = selects(frame, head.next, list, items, shape, ends, r);
-    let allowed = head.allowed & s.allowed;
-    let within = head.within & s.within;
-    rules_fault(allowed, rule.bound, within)?;
-    Ok(Ruled {
-        bound: (rule.bound % 256) as u8,
-        width: list.count,
+    let bound = scope.rule.bound;
+    let s = selects(scope, head.next, count);
+    rules_fault(head.allowed & s.allowed, bound, head.within & s.within)?;
+    let ranges = s.ranges;
+    Ok(Relation {
+        width: count,
+        bound: (bound % 256) as u8,
+        mask: 0,
+        start: 0,
+        ranges,
     })
 }
 
@@ -159,14 +115,13 @@ fn plain(bound: u32, filter: bool) -> Rule
 }
 
 // The where of any view.
-fn filtered(frame: &[u8], at: usize, items: Items, shape: &[u8], ends: &[i32], bound: u32) -> Tested
-    ensures { TestsC frame.now at (relations_in items) shape.now ends.now (plain_rule bound true) result }
+fn filtered(frame: &[u8], at: usize, items: Items, relations: &[Relation], bound: u32) -> Tested
+    ensures { TestsC frame.now at (relations_in items) relations.now (plain_rule bound true) result }
 {
     let scope = Scope {
         frame,
         items,
-        shape,
-        ends,
+        relations,
         rule: plain(bound, true),
     };
     scope.condition(at)
@@ -191,92 +146,67 @@ fn both(w: Tested, h: Tested) -> Tested
 }
 
 // What the frame of an aggregate or of a basic view begins with.
-fn opening_of(frame: &[u8], shape: &[u8], ends: &[i32], grouped: bool) -> Opening
-    ensures { OpeningOf grouped frame.now shape.now ends.now result }
+fn opening_of(frame: &[u8], relations: &[Relation], kind: ViewKind) -> Opening
+    ensures { OpeningOf (groups_rows kind) frame.now relations.now result }
 {
     let items = from_items(frame);
-    let parts = frames::parts_after(frame, grouped);
-    let bound = product_bound(items, shape);
-    let filter = filtered(frame, parts.body, items, shape, ends, bound);
+    let parts = frames::parts_after(frame, kind);
+    let bound = product_bound(items, relations);
+    let filter = filtered(frame, parts.body, items, relations, bound);
     Opening {
-        items: items,
-        parts: parts,
-        bound: bound,
-        filter: filter,
+        items,
+        parts,
+        bound,
+        filter,
     }
 }
 
-// The rules on the whole frame of a basic view that begins so, and the ranges of its columns.
-fn basic_rules(
-    frame: &[u8],
-    o: Opening,
-    shape: &[u8],
-    ends: &mut [i32],
-    r: u8,
-) -> Result<Ruled, Reason>
-    ensures { RulesFrom false o frame.now r shape.now ends.old ends.new result }
+// The rules on the whole frame of a basic view that begins so, and the view.
+fn basic_rules(frame: &[u8], o: Opening, relations: &[Relation]) -> Result<Relation, Reason>
+    ensures { RulesFrom false o frame.now relations.now result }
 {
-    let items = o.items;
-    let parts = o.parts;
-    let filter = o.filter;
-    let rule = plain(o.bound, false);
-    let list = SelectList {
-        count: parts.width,
-        rule: rule,
+    let scope = Scope {
+        frame,
+        items: o.items,
+        relations,
+        rule: plain(o.bound, false),
     };
-    tail(frame, filter, list, items, shape, ends, r)
+    tail(&scope, o.filter, o.parts.width)
 }
 
 // The same of an aggregate view.
-fn grouped_rules(
-    frame: &[u8],
-    o: Opening,
-    shape: &[u8],
-    ends: &mut [i32],
-    r: u8,
-) -> Result<Ruled, Reason>
-    ensures { RulesFrom true o frame.now r shape.now ends.old ends.new result }
+fn grouped_rules(frame: &[u8], o: Opening, relations: &[Relation]) -> Result<Relation, Reason>
+    ensures { RulesFrom true o frame.now relations.now result }
 {
-    let items = o.items;
-    let parts = o.parts;
-    let filter = o.filter;
-    let places = inside(frame, filter.next);
-    let count = parts.groups;
+    let places = inside(frame, o.filter.next);
+    let count = o.parts.groups;
     let rule = Rule {
         bound: o.bound,
         part: Part::Grouped { places, count },
     };
-    let having = places + 2 * usize::from(count);
     let scope = Scope {
         frame,
-        items,
-        shape,
-        ends,
+        items: o.items,
+        relations,
         rule,
     };
-    let h = scope.condition(having);
-    let list = SelectList {
-        count: parts.width,
-        rule: rule,
-    };
-    tail(frame, both(filter, h), list, items, shape, ends, r)
+    let h = scope.condition(places + 2 * usize::from(count));
+    tail(&scope, both(o.filter, h), o.parts.width)
 }
 
-// The rules on the whole frame of an aggregate or of a basic view, 7, 8 and 9, and the ranges of its columns. Of bytes that are no such frame
-// the answer is open, but for which numbers may change: the byte pass has refused them before.
-// Refused: an aggregate view's ranges as relation 0's; a basic view's.
+// The rules on the whole frame of an aggregate or of a basic view, 7, 8 and 9, and the view. Of bytes that are no such frame the answer is
+// open: the byte pass has refused them before.
+// Refused: an aggregate view opened as a basic one; a basic view opened as an aggregate one.
 pub(crate) fn rules(
     frame: &[u8],
-    shape: &[u8],
-    ends: &mut [i32],
-    r: u8,
-    grouped: bool,
-) -> Result<Ruled, Reason>
-    ensures { Rules grouped frame.now r shape.now ends.old ends.new result }
+    relations: &[Relation],
+    kind: ViewKind,
+) -> Result<Relation, Reason>
+    ensures { Rules (groups_rows kind) frame.now relations.now result }
 {
-    let o = opening_of(frame, shape, ends, grouped);
-    if grouped {
-        return grouped_rules(frame, o, shape, ends, r);
+    let o = opening_of(frame, relations, kind);
+    match kind {
+        ViewKind::Basic => basic_rules(frame, o, relations),
+        ViewKind::Aggregate => grouped_rules(frame, o, relations),
     }
-    basic_rules(frame, o, shape, ends, r)
 }

@@ -11,12 +11,13 @@ use Rattle.value.proofs.Places.{element-here}
 use Rattle.meaning.specs.Lists.{copies}
 use Rattle.meaning.specs.Syntax.{Table, File}
 use Rattle.meaning.specs.Candidates.{cell_columns}
-use Rattle.catalog.specs.Arrays.{width_at, bound_at}
+use Rattle.catalog.specs.Relations.{width_at, bound_at}
 use Rattle.language.specs.Legal.{LegalTable, table_at}
 use Rattle.store.specs.Rows.{listed}
 use Rattle.meaning.proofs.Listed.{length-listed}
 use Rattle.look.specs.declared.cells.Cell.{Cell}
 use Rattle.look.specs.Cells.{cell_of, no_cell, row_cells, table_cells, all_cells, file_cells, FirstCells, OnlyFrom, RowAdded, TableAdded, CellsOf}
+use Rattle.catalog.specs.declared.relation.Relation.{Relation}
 
 -- ---- their number
 
@@ -108,16 +109,16 @@ pub table-all : {table rows i columns n all : ℕ} {cells₀ cells : List Cell} 
     → TableAdded table rows columns n cells₀ all cells
 table-all r e = rw e at r
 
-pub tables-none : (shape : List ℕ) (cells : List Cell) → CellsOf shape 0 cells 0 cells
+pub tables-none : (relations : List Relation) (cells : List Cell) → CellsOf relations 0 cells 0 cells
 unfolding all_cells
-tables-none shape cells = record { only = only_none 0 0 cells; total = refl; added = λ h. record { number = refl; there = refl } }
+tables-none relations cells = record { only = only_none 0 0 cells; total = refl; added = λ h. record { number = refl; there = refl } }
 
-pub tables_more : {shape : List ℕ} {cells₀ cells after : List Cell} {t all rows columns r : ℕ} → CellsOf shape t cells₀ all cells
-    → rows ≡ bound_at shape t → columns ≡ width_at shape t → TableAdded t rows columns all cells r after → CellsOf shape (t + 1) cells₀ r after
+pub tables_more : {relations : List Relation} {cells₀ cells after : List Cell} {t all rows columns r : ℕ} → CellsOf relations t cells₀ all cells
+    → rows ≡ bound_at relations t → columns ≡ width_at relations t → TableAdded t rows columns all cells r after → CellsOf relations (t + 1) cells₀ r after
 unfolding all_cells
-tables_more {shape} {cells₀} {cells} {after} {t} {all} {rows} {columns} {r} a p q b =
+tables_more {relations} {cells₀} {cells} {after} {t} {all} {rows} {columns} {r} a p q b =
     let s : t + 1 ≡ suc t = omega arith in
-    let xs = all_cells (bound_at shape) (width_at shape) t in
+    let xs = all_cells (bound_at relations) (width_at relations) t in
     record {
       only = only_next (omega arith) (omega (arith, b.total)) a.only b.only;
       total = rw (s, ← p, ← q)
@@ -125,8 +126,8 @@ tables_more {shape} {cells₀} {cells} {after} {t} {all} {rows} {columns} {r} a 
       added = λ h. rw (s, ← p, ← q) (b.added xs (a.added (omega (arith, h, b.total))) (omega (arith, h, a.only.size)));
     }
 
-pub tables-all : {shape : List ℕ} {cells₀ cells : List Cell} {t tables all : ℕ} → CellsOf shape t cells₀ all cells → t ≡ tables
-    → CellsOf shape tables cells₀ all cells
+pub tables-all : {relations : List Relation} {cells₀ cells : List Cell} {t tables all : ℕ} → CellsOf relations t cells₀ all cells → t ≡ tables
+    → CellsOf relations tables cells₀ all cells
 tables-all r e = rw e at r
 
 -- ---- how many they can be

@@ -44,9 +44,9 @@ module _ (text : List ℕ) (F : File) (e : file_of text ≡ Outcome.accepted F) 
 
   -- any candidate is prepared by the calls of a look up to its first test
   pub placed : (p : Plan) {k : ℕ} {room : List Cell} {counts : List ℕ} {needs : Needs} {n : ℕ} {work work' : List ℤ} → Plans (file_of text) (Ok p)
-      → CellsOf p.shape p.outline.tables (replicate 512 no_cell) n room → TablesCounted p.shape p.outline.tables (replicate 16 0) counts
+      → CellsOf p.relations p.outline.tables (replicate 512 no_cell) n room → TablesCounted p.relations p.outline.tables (replicate 16 0) counts
       → NeedsOf (source_of p) p.goal needs
-      → area ≤ length work → CandidatePut (places_from p.shape p.ends (take n room)) k work work' → Prepared text F k
+      → area ≤ length work → CandidatePut (places_from p.relations (take n room)) k work work' → Prepared text F k
   placed p {counts = counts} {needs} {work' = work'} c D C N whole P =
       let M = (planned c).file in
       record {
@@ -62,12 +62,12 @@ module _ (text : List ℕ) (F : File) (e : file_of text ≡ Outcome.accepted F) 
     plan-of : PlanOf F P.plan
     plan-of = planned P.checked
 
-    set-up : Setting F (source_of P.plan) P.plan.ends P.needs P.plan.goal
+    set-up : Setting F (source_of P.plan) P.needs P.plan.goal
     set-up = setting plan-of.file plan-of.goal P.flagged
 
     -- the next candidate is prepared by the test of this one and the move to that one
-    pub moved : {r : Bool} {room : List Cell} {n next : ℕ} {memory' : Memory} {work'' : List ℤ} → CellsOf P.plan.shape P.plan.outline.tables (replicate 512 no_cell) n room
-        → Judged P r memory' → Moved (places_from P.plan.shape P.plan.ends (take n room)) k next memory'.work work'' → Prepared text F next
+    pub moved : {r : Bool} {room : List Cell} {n next : ℕ} {memory' : Memory} {work'' : List ℤ} → CellsOf P.plan.relations P.plan.outline.tables (replicate 512 no_cell) n room
+        → Judged P r memory' → Moved (places_from P.plan.relations (take n room)) k next memory'.work work'' → Prepared text F next
     moved {memory' = memory'} {work''} D J M = record {
       plan = P.plan;
       needs = P.needs;

@@ -51,10 +51,10 @@ zeros-same a b e = ap (λ n. replicate n (pos 0)) e
 
 -- the cells that a look at a plan works out
 abbrev pub Planned : Plan → ℕ → List Cell → Type 0
-Planned p n room = CellsOf p.shape p.outline.tables (replicate 512 no_cell) n room
+Planned p n room = CellsOf p.relations p.outline.tables (replicate 512 no_cell) n room
 
 module _ {p : Plan} where
-  digits : {F : File} {n : ℕ} {room : List Cell} → PlanOf F p → Planned p n room → Digits F (places_from p.shape p.ends (take n room))
+  digits : {F : File} {n : ℕ} {room : List Cell} → PlanOf F p → Planned p n room → Digits F (places_from p.relations (take n room))
   digits P C = digits-given P.file C refl
 
   counted : {F : File} {n : ℕ} {room : List Cell} → PlanOf F p → Planned p n room → length (cell_columns F.tables) ≡ n
@@ -77,7 +77,7 @@ module _ {p : Plan} where
 
 -- the search of a look at a plan
 abbrev search_of : Plan → List Cell → ℕ → ℕ → Search
-search_of p cells start end = record { source = source_of p; ends = p.ends; cells = cells; goal = p.goal; start = start; end = end }
+search_of p cells start end = record { source = source_of p; cells = cells; goal = p.goal; start = start; end = end }
 
 -- "no case" and "spent" leave the same
 by_end : (b : Bool) (cells end : ℕ) (work inst work' : List ℤ) → work' ≡ zeros work → Leaves (cond b Answer.no_case (Answer.spent end)) cells work inst work' inst

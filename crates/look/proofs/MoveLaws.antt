@@ -23,19 +23,20 @@ use Rattle.look.specs.Moves.{cell_column, CellPlaces, Digits, OnlyTables, DigitP
 use Rattle.look.specs.declared.moves.Quotients.{Quotients}
 use Rattle.look.proofs.Distinct.{cells-rise, cell-put}
 use Rattle.look.proofs.DigitLaws.{same-leading, drop-values, values-step, quotient-step, column-legal, legal-size, digit-held}
+use Rattle.catalog.specs.declared.relation.Relation.{Relation}
 
 -- ---- one digit
 
-module _ {shape : List ℕ} {ends : List ℤ} {x : Cell} {q : Quotients} {work : List ℤ} (d : Column) (found : d ≡ cell_column shape ends x) where
+module _ {relations : List Relation} {x : Cell} {q : Quotients} {work : List ℤ} (d : Column) (found : d ≡ cell_column relations x) where
   -- no column is without digits
-  pub none-put : size d ≡ 0 → DigitPut shape ends x q work q work
+  pub none-put : size d ≡ 0 → DigitPut relations x q work q work
   none-put z = record {
     only = only_same work;
     put = λ c e s. let p : size c ≡ 0 = ap size (sym e ∙ sym found) ∙ z in absurd (omega arith);
   }
 
   pub digit-put : {work' : List ℤ} (s : ℕ) (v : Value) → s ≡ size d → v ≡ narrowed (digit d (q.new % s)) → work' ≡ put_cell work x.table x.row x.column v
-      → DigitPut shape ends x q work (record { old = q.old / s; new = q.new / s }) work'
+      → DigitPut relations x q work (record { old = q.old / s; new = q.new / s }) work'
   digit-put s v k w p = record {
     only = rw p (only-put-cell work x.table x.row x.column v refl);
     put = λ c e o.
@@ -89,10 +90,9 @@ going-first {p} k next work₀ F D =
 -- one cell more
 going_next : {p : CellPlaces} {k next : ℕ} (F : File) {before : List Value} {work work' : List ℤ} {i : ℕ} {q r : Quotients}
     → Digits F p → i < length p.cells → area ≤ length work
-    → Going F k next before work (suc i) q → DigitPut p.shape p.ends (get_or p.cells i no_cell) q work r work' → Going F k next before work' i r
+    → Going F k next before work (suc i) q → DigitPut p.relations (get_or p.cells i no_cell) q work r work' → Going F k next before work' i r
 going_next {p} {k} {next} F {before} {work} {work'} {i} {q} {r} D h a g put =
-    let shape = p.shape in
-    let ends = p.ends in
+    let relations = p.relations in
     let xs = file_cells F in
     let cs = cell_columns F.tables in
     let c = get_or cs i no_column in
@@ -102,8 +102,8 @@ going_next {p} {k} {next} F {before} {work} {work'} {i} {q} {r} D h a g put =
     let lc : i < length cs = omega (arith, D.number) in
     let L = column-legal F D.legal i lc in
     let ex : get_or p.cells i no_cell ≡ x = ap (λ (l : List Cell). get_or l i no_cell) D.cells-are in
-    let P : DigitPut shape ends x q work r work' = subst (λ (y : Cell). DigitPut shape ends y q work r work') ex put in
-    let ec : cell_column shape ends x ≡ c = sym (map_at (cell_column shape ends) xs i no_cell no_column lx) ∙ ap (λ (l : List Column). get_or l i no_column) D.columns in
+    let P : DigitPut relations x q work r work' = subst (λ (y : Cell). DigitPut relations y q work r work') ex put in
+    let ec : cell_column relations x ≡ c = sym (map_at (cell_column relations) xs i no_cell no_column lx) ∙ ap (λ (l : List Column). get_or l i no_column) D.columns in
     let d = P.put c ec (legal-size c L) in
     let ev : narrowed (digit c (q.new % size c)) ≡ digit c (next / sizes_product (drop (suc i) cs) % size c) =
     digit-held c L q.new ∙ ap (λ (m : ℕ). digit c (m % size c)) g.new in
@@ -141,11 +141,11 @@ module _ {p : CellPlaces} {k next : ℕ} {work₀ : List ℤ} where
   under_first = record { only = only_same work₀; bound = omega arith; going = λ F D a. going-first k next work₀ F D }
 
   pub under_next : {work work' : List ℤ} {j : ℕ} {x : Cell} {q r : Quotients} → 0 < j → Under p k next work₀ work j q → x ≡ get_or p.cells (j - 1) no_cell
-      → DigitPut p.shape p.ends x q work r work' → Under p k next work₀ work' (j - 1) r
+      → DigitPut p.relations x q work r work' → Under p k next work₀ work' (j - 1) r
   under_next {work} {work'} {j} {x} {q} {r} h u e put =
       let b : j ≤ length p.cells = u.bound in
       let s : j ≡ suc (j - 1) = omega arith in
-      let P : DigitPut p.shape p.ends (get_or p.cells (j - 1) no_cell) q work r work' = subst (λ (y : Cell). DigitPut p.shape p.ends y q work r work') e put in
+      let P : DigitPut p.relations (get_or p.cells (j - 1) no_cell) q work r work' = subst (λ (y : Cell). DigitPut p.relations y q work r work') e put in
       let own : (t : ℕ) → t ≡ x.table → CellTable p.cells t =
       λ t k. record { place = j - 1; there = omega arith; table_is = ap (λ (y : Cell). y.table) (sym e) ∙ sym k } in
       record {

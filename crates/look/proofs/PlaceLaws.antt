@@ -15,7 +15,7 @@ use Rattle.meaning.specs.Candidates.{cell_columns, sizes_product, values, cells}
 use Rattle.meaning.proofs.Elements.{all_append, all-before, all-behind, all-at, map_same}
 use Rattle.meaning.proofs.ListSteps.{map_at}
 use Rattle.language.specs.Legal.{Legal, LegalTable, LegalColumn, table_at}
-use Rattle.catalog.specs.Arrays.{column_at}
+use Rattle.catalog.specs.Relations.{column_at}
 use Rattle.catalog.proofs.FileLaws.{no_column}
 use Rattle.store.specs.Layout.{area, column_limit}
 use Rattle.store.specs.Rows.{row_of, with_value, put_row}
@@ -30,24 +30,25 @@ use Rattle.look.proofs.CellLaws.{length-row}
 use Rattle.look.proofs.Distinct.{rank_of, rank}
 use Rattle.look.proofs.DigitLaws.{div-product, values-step, quotient-step, columns-legal, legal-size, digit-held}
 use Rattle.look.proofs.Standing.{all_listed, row-cells}
+use Rattle.catalog.specs.declared.relation.Relation.{Relation}
 
 -- ---- the digits of one row, from the last column back
 
 -- the columns that the arrays say, none without digits
-pub record RowColumns (shape : List ℕ) (ends : List ℤ) (table width : ℕ) (cs : List Column) : Type 0 where
+pub record RowColumns (relations : List Relation) (table width : ℕ) (cs : List Column) : Type 0 where
   pub number : length cs ≡ width
   pub few : width ≤ column_limit
-  pub column : (c : ℕ) → c < width → column_at shape ends table c ≡ get_or cs c no_column
+  pub column : (c : ℕ) → c < width → column_at relations table c ≡ get_or cs c no_column
   pub sized : All (λ c. 0 < size c) cs
 
 -- from column c on the row has the digits of q, and `left` is what is left of q
-pub record Taking (shape : List ℕ) (ends : List ℤ) (table width q c : ℕ) (row : Values) (left : ℕ) : Type 0 where
+pub record Taking (relations : List Relation) (table width q c : ℕ) (row : Values) (left : ℕ) : Type 0 where
   pub bound : c ≤ width
-  pub taken : (cs : List Column) → RowColumns shape ends table width cs
+  pub taken : (cs : List Column) → RowColumns relations table width cs
       → (drop c (row_of row width) ≡ map narrowed (values (drop c cs) q)) × (left ≡ q / sizes_product (drop c cs))
 
-module _ {shape : List ℕ} {ends : List ℤ} {table width q : ℕ} where
-  pub taking-none : {row : Values} → Taking shape ends table width q width row q
+module _ {relations : List Relation} {table width q : ℕ} where
+  pub taking-none : {row : Values} → Taking relations table width q width row q
   taking-none {row} = record {
     bound = omega arith;
     taken = λ cs R.
@@ -56,21 +57,21 @@ module _ {shape : List ℕ} {ends : List ℤ} {table width q : ℕ} where
         (f ∙ sym (ap (λ (l : List Column). map narrowed (values l q)) e), sym (ap (λ (l : List Column). q / sizes_product l) e ∙ div-one q));
   }
 
-  module _ {c : ℕ} {row : Values} {left : ℕ} (T : Taking shape ends table width q c row left) (some : 0 < c) (d : Column) (found : d ≡ column_at shape ends table (c - 1)) where
-    column-here : (cs : List Column) → RowColumns shape ends table width cs → d ≡ get_or cs (c - 1) no_column
+  module _ {c : ℕ} {row : Values} {left : ℕ} (T : Taking relations table width q c row left) (some : 0 < c) (d : Column) (found : d ≡ column_at relations table (c - 1)) where
+    column-here : (cs : List Column) → RowColumns relations table width cs → d ≡ get_or cs (c - 1) no_column
     column-here cs R = found ∙ R.column (c - 1) (omega (arith, T.bound))
 
     -- no column is without digits
-    pub taken_none : {r : TakenRow} → size d ≡ 0 → TakesRow shape ends table width q r
+    pub taken_none : {r : TakenRow} → size d ≡ 0 → TakesRow relations table width q r
     taken_none z = record {
       takes = λ cs n few column sized.
-          let R : RowColumns shape ends table width cs = record { number = n; few = few; column = column; sized = sized } in
+          let R : RowColumns relations table width cs = record { number = n; few = few; column = column; sized = sized } in
           let s : size (get_or cs (c - 1) no_column) ≡ 0 = ap size (sym (column-here cs R)) ∙ z in
           absurd (omega (arith, all-at sized no_column (c - 1) (omega (arith, n, T.bound))));
     }
 
     pub taking-more : {row' : Values} (s : ℕ) (v : Value) → s ≡ size d → v ≡ narrowed (digit d (left % s))
-        → ((w : ℕ) → row_of row' w ≡ with_value (row_of row w) (c - 1) v) → Taking shape ends table width q (c - 1) row' (left / s)
+        → ((w : ℕ) → row_of row' w ≡ with_value (row_of row w) (c - 1) v) → Taking relations table width q (c - 1) row' (left / s)
     taking-more {row'} s v k w put = record {
       bound = omega (arith, T.bound);
       taken = λ cs R.
@@ -89,12 +90,12 @@ module _ {shape : List ℕ} {ends : List ℤ} {table width q : ℕ} where
           );
     }
 
-  pub taken-all : {c : ℕ} {row : Values} {left : ℕ} → Taking shape ends table width q c row left → c ≤ 0
-      → TakesRow shape ends table width q (record { row = row; left = left })
+  pub taken-all : {c : ℕ} {row : Values} {left : ℕ} → Taking relations table width q c row left → c ≤ 0
+      → TakesRow relations table width q (record { row = row; left = left })
   taken-all {c} {row} {left} T h = record {
     takes = λ cs n few column sized.
         let z : c ≡ 0 = omega arith in
-        (subst (λ j. Taking shape ends table width q j row left) z T).taken cs (record { number = n; few = few; column = column; sized = sized });
+        (subst (λ j. Taking relations table width q j row left) z T).taken cs (record { number = n; few = few; column = column; sized = sized });
   }
 
 -- ---- the cells of whole rows
@@ -163,8 +164,8 @@ pub record Placing (F : File) (p : CellPlaces) (k : ℕ) (work : List ℤ) (j le
   pub whole : WholeRows ys high
   pub top : high ≤ 512
   pub above : All (Above high) zs
-  pub left_is : left ≡ k / sizes_product (map (cell_column p.shape p.ends) zs)
-  pub there : cells_in work zs ≡ values (map (cell_column p.shape p.ends) zs) k
+  pub left_is : left ≡ k / sizes_product (map (cell_column p.relations) zs)
+  pub there : cells_in work zs ≡ values (map (cell_column p.relations) zs) k
 
 pub record Placed (p : CellPlaces) (k : ℕ) (work₀ work : List ℤ) (j left : ℕ) : Type 0 where
   pub only : OnlyTables p work₀ work
@@ -249,7 +250,7 @@ cells-append work a b = map-append (cell_at work) a b
 module _ (F : File) {p : CellPlaces} (D : Digits F p) {k : ℕ} {work : List ℤ} {j left : ℕ} {x : Cell} (P : Placing F p k work j left) (some : 0 < j)
     (read : x ≡ get_or p.cells (j - 1) no_cell) where
   abbrev column : Cell → Column
-  column = cell_column p.shape p.ends
+  column = cell_column p.relations
 
   last : LastRow F P.ys P.zs P.high x
   last = last_row F D P.whole P.split P.number some read
@@ -261,7 +262,7 @@ module _ (F : File) {p : CellPlaces} (D : Digits F p) {k : ℕ} {work : List ℤ
   pub width_fits : columns ≤ j
   width_fits = omega (arith, last.width_is, last.number, P.number)
 
-  module _ {r : TakenRow} {work' : List ℤ} (room : area ≤ length work) (takes : TakesRow p.shape p.ends x.table columns left r)
+  module _ {r : TakenRow} {work' : List ℤ} (room : area ≤ length work) (takes : TakesRow p.relations x.table columns left r)
       (put : work' ≡ put_row work x.table x.row columns (row_of r.row columns)) where
     abbrev t : ℕ
     t = last.table
@@ -290,8 +291,8 @@ module _ (F : File) {p : CellPlaces} (D : Digits F p) {k : ℕ} {work : List ℤ
 
     taken : (row_of r.row w ≡ map narrowed (values own left)) × (r.left ≡ left / sizes_product own)
     taken =
-        let T : TakesRow p.shape p.ends t w left r =
-        subst (λ n. TakesRow p.shape p.ends t n left r) last.width_is (subst (λ n. TakesRow p.shape p.ends n columns left r) last.table_is takes) in
+        let T : TakesRow p.relations t w left r =
+        subst (λ n. TakesRow p.relations t n left r) last.width_is (subst (λ n. TakesRow p.relations n columns left r) last.table_is takes) in
         let number = length-row t i w in
         T.takes own (length-map (row_cells t i w) column ∙ number) (omega (arith, last.few))
         (λ c h. sym (map_at column (row_cells t i w) c no_cell no_column (omega arith) ∙ ap column (row-cell t i w c h)))
@@ -330,7 +331,7 @@ all_placed : (F : File) {p : CellPlaces} → Digits F p → {k : ℕ} {work : Li
 unfolding cells
 all_placed F {p} D {k} {work} P =
     let e : file_cells F ≡ P.zs = P.split ∙ front P.ys P.number in
-    ap (cells_in work) e ∙ P.there ∙ sym (ap (λ (l : List Cell). values (map (cell_column p.shape p.ends) l) k) e) ∙ ap (λ (l : List Column). values l k) D.columns
+    ap (cells_in work) e ∙ P.there ∙ sym (ap (λ (l : List Cell). values (map (cell_column p.relations) l) k) e) ∙ ap (λ (l : List Column). values l k) D.columns
   where
     front : (ys : List Cell) → length ys ≡ 0 → ys ++ P.zs ≡ P.zs
     front [] e = refl
@@ -365,7 +366,7 @@ module _ {p : CellPlaces} {k : ℕ} {work₀ : List ℤ} where
         placed = λ F D a. absurd (omega (arith, e, width_fits F D (P.placing F D a) some read));
       }
 
-      pub placed_row : {r : TakenRow} {work' : List ℤ} → TakesRow p.shape p.ends x.table w left r → work' ≡ put_row work x.table x.row w (row_of r.row w)
+      pub placed_row : {r : TakenRow} {work' : List ℤ} → TakesRow p.relations x.table w left r → work' ≡ put_row work x.table x.row w (row_of r.row w)
           → Placed p k work₀ work' (j - w) r.left
       placed_row {r} {work'} takes put = record {
         only = only-more P.only (rw put (only-put-row work x.table x.row w (row_of r.row w)

@@ -63,8 +63,8 @@ module _ {F : File} (L : Legal F) where
 -- ---- a candidate stands in the work area
 
 -- a candidate that was placed
-pub placed_at : {F : File} {source : Source} {ends : List ℤ} {p : CellPlaces} {k : ℕ} {work work₁ : List ℤ} {counts : List ℕ} → FileIn F source ends
-    → Digits F p → TablesCounted source.shape source.outline.tables (replicate 16 0) counts → area ≤ length work → CandidatePut p k work work₁
+pub placed_at : {F : File} {source : Source} {p : CellPlaces} {k : ℕ} {work work₁ : List ℤ} {counts : List ℕ} → FileIn F source
+    → Digits F p → TablesCounted source.relations source.outline.tables (replicate 16 0) counts → area ≤ length work → CandidatePut p k work work₁
     → At F (memory_from counts (replicate 16 0) work₁) k
 placed_at {F} G D C whole P = record {
   counts-size = omega (arith, C.size);
@@ -75,7 +75,7 @@ placed_at {F} G D C whole P = record {
 }
 
 -- the next one, after a test and a move
-pub moved_at : {F : File} {source : Source} {ends : List ℤ} {p : CellPlaces} {k next : ℕ} {memory memory₁ : Memory} {work₂ : List ℤ} → FileIn F source ends
+pub moved_at : {F : File} {source : Source} {p : CellPlaces} {k next : ℕ} {memory memory₁ : Memory} {work₂ : List ℤ} → FileIn F source
     → Digits F p → OnlyViews source.outline memory memory₁ → Moved p k next memory₁.work work₂ → At F memory k
     → At F (memory_from memory₁.counts memory₁.signs work₂) next
 moved_at {F} G D K M A = record {
@@ -89,15 +89,15 @@ moved_at {F} G D K M A = record {
 -- ---- a candidate is tested
 
 -- what the file's own goal depends on
-pub setting : {F : File} {source : Source} {needs : Needs} {ends : List ℤ} {g : Goal} → FileIn F source ends → goal_of g ≡ F.goal
-    → NeedsOf source g needs → Setting F source ends needs g
+pub setting : {F : File} {source : Source} {needs : Needs} {g : Goal} → FileIn F source → goal_of g ≡ F.goal
+    → NeedsOf source g needs → Setting F source needs g
 setting {F} {needs = needs} M e N = record {
   file = M;
   goal = e;
   covers = subst (λ x. GoalIn F x → Covers F x needs) e (λ h. N.covers M h) M.legal.goal;
 }
 
-pub ready : {F : File} {source : Source} {ends : List ℤ} {needs : Needs} {g : Goal} {memory : Memory} {k : ℕ} → Setting F source ends needs g → At F memory k
+pub ready : {F : File} {source : Source} {needs : Needs} {g : Goal} {memory : Memory} {k : ℕ} → Setting F source needs g → At F memory k
     → Ready F F.goal (database F k) needs memory
 ready {F} {memory = memory} {k = k} P A = record {
   covers = P.covers;
@@ -109,7 +109,7 @@ ready {F} {memory = memory} {k = k} P A = record {
 }
 
 pub judged : {source : Source} {needs : Needs} {g : Goal} {k : ℕ} {memory memory' : Memory} {b : Bool} → IsCase source needs g memory b memory'
-    → (F : File) {ends : List ℤ} → Setting F source ends needs g → At F memory k → b ≡ is_case_at F k
+    → (F : File) → Setting F source needs g → At F memory k → b ≡ is_case_at F k
 unfolding is_case_at
 judged {needs = needs} {k = k} {memory} {b = b} J F P A =
     subst (λ x. Ready F x (database F k) needs memory → b ≡ is_case F x (database F k)) P.goal (J.case P.file) (ready P A)
@@ -123,8 +123,8 @@ pub record Scanned (s : Search) (needs : Needs) (memory : Memory) (k : ℕ) (mem
   pub signs-size : length memory'.signs ≡ length memory.signs
   pub counts : (i : ℕ) → (ViewIn s.source.outline i → ⊥) → get_or memory'.counts i 0 ≡ get_or memory.counts i 0
   pub signs : (i : ℕ) → (ViewIn s.source.outline i → ⊥) → get_or memory'.signs i 0 ≡ get_or memory.signs i 0
-  pub here : (F : File) → Setting F s.source s.ends needs s.goal → Digits F (places_of s) → At F memory s.start → At F memory' k
-  pub none : (F : File) → Setting F s.source s.ends needs s.goal → Digits F (places_of s) → At F memory s.start
+  pub here : (F : File) → Setting F s.source needs s.goal → Digits F (places_of s) → At F memory s.start → At F memory' k
+  pub none : (F : File) → Setting F s.source needs s.goal → Digits F (places_of s) → At F memory s.start
       → (j : ℕ) → s.start ≤ j → j < k → is_case_at F j ≡ false
 
 module _ {s : Search} {needs : Needs} {memory : Memory} where
@@ -203,7 +203,7 @@ module _ {s : Search} {needs : Needs} {memory : Memory} where
 -- ---- the search
 
 pub searches : {s : Search} {needs : Needs} {work work₁ : List ℤ} {counts : List ℕ} {r : Option ℕ} {memory₂ : Memory}
-    → TablesCounted s.source.shape s.source.outline.tables (replicate 16 0) counts → CandidatePut (places_of s) s.start work work₁
+    → TablesCounted s.source.relations s.source.outline.tables (replicate 16 0) counts → CandidatePut (places_of s) s.start work work₁
     → NeedsOf s.source s.goal needs → Scans s needs (memory_from counts (replicate 16 0) work₁) r memory₂
     → Searched s work r memory₂.work
 searches C P N S = record {

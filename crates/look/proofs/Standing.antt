@@ -13,7 +13,7 @@ use Rattle.meaning.specs.Syntax.{Table, File, Row, Database}
 use Rattle.meaning.specs.Candidates.{cell_columns, cut_rows, cut, cells, database}
 use Rattle.meaning.proofs.Elements.{all_append}
 use Rattle.meaning.proofs.Numbering.{length-joined, cut-joined}
-use Rattle.catalog.specs.Arrays.{width_at, bound_at, column_at}
+use Rattle.catalog.specs.Relations.{width_at, bound_at, column_at}
 use Rattle.catalog.specs.FileIn.{Source, FileIn}
 use Rattle.catalog.proofs.FileLaws.{no_column, rows_are, columns-are, column-is}
 use Rattle.language.specs.Legal.{Legal, LegalTable, table_at}
@@ -25,6 +25,7 @@ use Rattle.look.specs.declared.cells.Cell.{Cell}
 use Rattle.look.specs.Cells.{cell_of, row_cells, table_cells, all_cells, file_cells, cell_at, cells_in, CellsOf}
 use Rattle.look.specs.Moves.{cell_column, places_from, Digits}
 use Rattle.look.proofs.CellLaws.{cells_from, cells-of, cells-few, cells_same, length-cells}
+use Rattle.catalog.specs.declared.relation.Relation.{Relation}
 
 -- ---- lists
 
@@ -49,65 +50,65 @@ copies-snoc (suc n) xs = append_assoc xs (copies n xs) xs ∙ ap (λ l. xs ++ l)
 
 -- ---- the column of a cell
 
--- the arrays say the columns of table t
-abbrev ColumnsAt : List ℕ → List ℤ → ℕ → Table → Type 0
-ColumnsAt shape ends t x = (c : ℕ) → c < length x.columns → column_at shape ends t c ≡ get_or x.columns c no_column
+-- the relations say the columns of table t
+abbrev ColumnsAt : List Relation → ℕ → Table → Type 0
+ColumnsAt relations t x = (c : ℕ) → c < length x.columns → column_at relations t c ≡ get_or x.columns c no_column
 
-module _ (shape : List ℕ) (ends : List ℤ) where
-  row-columns : (t i : ℕ) (x : Table) → ColumnsAt shape ends t x → map (cell_column shape ends) (row_cells t i (length x.columns)) ≡ x.columns
+module _ (relations : List Relation) where
+  row-columns : (t i : ℕ) (x : Table) → ColumnsAt relations t x → map (cell_column relations) (row_cells t i (length x.columns)) ≡ x.columns
   unfolding row_cells
   row-columns t i x e =
       let w = length x.columns in
-      map-listed (cell_column shape ends) (cell_of t i) w
-      ∙ listed_same (λ c. cell_column shape ends (cell_of t i c)) (λ c. get_or x.columns c no_column) w (λ c k. e c k)
+      map-listed (cell_column relations) (cell_of t i) w
+      ∙ listed_same (λ c. cell_column relations (cell_of t i c)) (λ c. get_or x.columns c no_column) w (λ c k. e c k)
       ∙ listed-get_d x.columns no_column w refl
 
-  rows-columns : (t n : ℕ) (x : Table) → ColumnsAt shape ends t x → map (cell_column shape ends) (table_cells t (length x.columns) n) ≡ copies n x.columns
+  rows-columns : (t n : ℕ) (x : Table) → ColumnsAt relations t x → map (cell_column relations) (table_cells t (length x.columns) n) ≡ copies n x.columns
   unfolding table_cells
   rows-columns t zero x e = refl
   rows-columns t (suc n) x e =
       let w = length x.columns in
-      map-append (cell_column shape ends) (table_cells t w n) (row_cells t n w)
+      map-append (cell_column relations) (table_cells t w n) (row_cells t n w)
       ∙ ap₂ ◌++◌ (rows-columns t n x e) (row-columns t n x e)
       ∙ copies-snoc n x.columns
 
-  tables-columns : (t : ℕ) {ts : List Table} → All LegalTable ts → ((i : ℕ) → i < length ts → ColumnsAt shape ends (t + i) (table_at ts i))
-      → map (cell_column shape ends) (cells_from t ts) ≡ cell_columns ts
+  tables-columns : (t : ℕ) {ts : List Table} → All LegalTable ts → ((i : ℕ) → i < length ts → ColumnsAt relations (t + i) (table_at ts i))
+      → map (cell_column relations) (cells_from t ts) ≡ cell_columns ts
   tables-columns t All.nil h = refl
   tables-columns t (All.cons {x = x} {xs = ts} l ls) h =
       let s : t + 0 ≡ t = omega arith in
-      map-append (cell_column shape ends) (table_cells t (length x.columns) x.rows) (cells_from (suc t) ts)
-      ∙ ap₂ ◌++◌ (rows-columns t x.rows x (subst (λ i. ColumnsAt shape ends i x) s (h 0 (omega arith))))
+      map-append (cell_column relations) (table_cells t (length x.columns) x.rows) (cells_from (suc t) ts)
+      ∙ ap₂ ◌++◌ (rows-columns t x.rows x (subst (λ i. ColumnsAt relations i x) s (h 0 (omega arith))))
       (tables-columns (suc t) ls (λ i k. let s' : t + suc i ≡ suc t + i = omega arith in
-      subst (λ j. ColumnsAt shape ends j (table_at ts i)) s' (h (suc i) (omega arith))))
+      subst (λ j. ColumnsAt relations j (table_at ts i)) s' (h (suc i) (omega arith))))
 
 -- ---- the cells of a file in memory
 
-module _ {F : File} {source : Source} {ends : List ℤ} (M : FileIn F source ends) where
-  given-cells : all_cells (bound_at source.shape) (width_at source.shape) source.outline.tables ≡ file_cells F
+module _ {F : File} {source : Source} (M : FileIn F source) where
+  given-cells : all_cells (bound_at source.relations) (width_at source.relations) source.outline.tables ≡ file_cells F
   unfolding file_cells
   given-cells =
       cells_same source.outline.tables (λ t h. rows_are M t (omega (arith, h, M.tables))) (λ t h. columns-are M t (omega (arith, h, M.tables)))
       ∙ ap (all_cells (λ t. (table_at F.tables t).rows) (λ t. length (table_at F.tables t).columns)) M.tables
 
-  given-columns : map (cell_column source.shape ends) (file_cells F) ≡ cell_columns F.tables
+  given-columns : map (cell_column source.relations) (file_cells F) ≡ cell_columns F.tables
   given-columns =
-      ap (map (cell_column source.shape ends)) (cells-of F)
-      ∙ tables-columns source.shape ends 0 M.legal.tables (λ i h. let s : i ≡ 0 + i = omega arith in
-      subst (λ j. ColumnsAt source.shape ends j (table_at F.tables i)) s (λ c. column-is M i c h))
+      ap (map (cell_column source.relations)) (cells-of F)
+      ∙ tables-columns source.relations 0 M.legal.tables (λ i h. let s : i ≡ 0 + i = omega arith in
+      subst (λ j. ColumnsAt source.relations j (table_at F.tables i)) s (λ c. column-is M i c h))
 
 length-file_cells : (F : File) → length (file_cells F) ≡ length (cell_columns F.tables)
 length-file_cells F = ap length (cells-of F) ∙ length-cells 0 F.tables
 
-module _ {F : File} {source : Source} {ends : List ℤ} {room cells : List Cell} {r : ℕ} (M : FileIn F source ends)
-    (c : CellsOf source.shape source.outline.tables room r cells) (n : length room ≡ 512) where
+module _ {F : File} {source : Source} {room cells : List Cell} {r : ℕ} (M : FileIn F source)
+    (c : CellsOf source.relations source.outline.tables room r cells) (n : length room ≡ 512) where
   total : r ≡ length (file_cells F)
   total = c.total ∙ ap length (given-cells M)
 
   pub cells-counted : length (cell_columns F.tables) ≡ r
   cells-counted = sym (total ∙ length-file_cells F)
 
-  pub digits-given : Digits F (places_from source.shape ends (take r cells))
+  pub digits-given : Digits F (places_from source.relations (take r cells))
   digits-given =
       let same = given-cells M in
       let few : length (cell_columns F.tables) ≤ length F.tables * 32 = cells-few M.legal.tables in

@@ -3,11 +3,12 @@
 use Rattle.std.specs.Prelude.{◌≡◌, List, [], ◌++◌, map, ℕ, zero, suc, ◌+◌, ◌*◌, ◌≤◌, ◌<◌, ℤ, length, get_or, take}
 use Rattle.value.specs.Value.{Value}
 use Rattle.meaning.specs.Syntax.{File}
-use Rattle.catalog.specs.Arrays.{width_at, bound_at}
+use Rattle.catalog.specs.Relations.{width_at, bound_at}
 use Rattle.language.specs.Legal.{table_at}
 use Rattle.store.specs.Layout.{cell_in}
 use Rattle.store.specs.Rows.{listed}
 use Rattle.look.specs.declared.cells.Cell.{Cell}
+use Rattle.catalog.specs.declared.relation.Relation.{Relation}
 
 abbrev pub cell_of : ℕ → ℕ → ℕ → Cell
 cell_of t i c = record { table = t; row = i; column = c }
@@ -69,7 +70,7 @@ pub record TableAdded (table rows columns n : ℕ) (cells : List Cell) (r : ℕ)
   pub total : r ≡ n + rows * columns
   pub added : (xs : List Cell) → FirstCells cells n xs → r ≤ length cells → FirstCells cells' r (xs ++ table_cells table columns rows)
 
-pub record CellsOf (shape : List ℕ) (tables : ℕ) (cells : List Cell) (r : ℕ) (cells' : List Cell) : Type 0 where
+pub record CellsOf (relations : List Relation) (tables : ℕ) (cells : List Cell) (r : ℕ) (cells' : List Cell) : Type 0 where
   pub only : OnlyFrom 0 r cells cells'
-  pub total : r ≡ length (all_cells (bound_at shape) (width_at shape) tables)
-  pub added : r ≤ length cells → FirstCells cells' r (all_cells (bound_at shape) (width_at shape) tables)
+  pub total : r ≡ length (all_cells (bound_at relations) (width_at relations) tables)
+  pub added : r ≤ length cells → FirstCells cells' r (all_cells (bound_at relations) (width_at relations) tables)

@@ -6,7 +6,7 @@ use Rattle.meaning.specs.Syntax.{File}
 use Rattle.meaning.specs.Look.{Answer, number_of, values_of, After, answer_in, zeros, work_size}
 use Rattle.meaning.specs.Decided.{refusal, look}
 use Rattle.language.specs.LookOf.{look_of}
-use Rattle.catalog.specs.Arrays.{width_at, bound_at}
+use Rattle.catalog.specs.Relations.{width_at, bound_at}
 use Rattle.catalog.specs.FileIn.{PlanOf}
 use Rattle.catalog.specs.declared.plan.Plan.{Plan}
 use Rattle.look.specs.Cells.{all_cells}
@@ -60,9 +60,9 @@ pub record Tells (s : Search) (n : ℕ) (work inst : List ℤ) (r : Answered) (w
   pub cleared : work' ≡ zeros left
   pub tells : TellsOf found s n left inst r inst'
 
--- as many cells as the arrays of a plan say
+-- as many cells as the relations of a plan say
 abbrev pub cells_by : Plan → ℕ
-cells_by p = length (all_cells (bound_at p.shape) (width_at p.shape) p.outline.tables)
+cells_by p = length (all_cells (bound_at p.relations) (width_at p.relations) p.outline.tables)
 
 -- what a look at any plan leaves: a refusal changes nothing, else the work area is all zero; a case changes the instance buffer at most in as
 -- many numbers as there are cells

@@ -15,10 +15,9 @@ use Rattle.look.specs.declared.scan.Search.{Search as Lent}
 use Rattle.look.specs.Cells.{file_cells, cells_in, CellTable}
 use Rattle.look.specs.Moves.{CellPlaces, places_from, Digits}
 
--- a file, the ends of its ranges and the cells of its tables, its goal, and the candidates from `start` on and before `end`
+-- a file and the cells of its tables, its goal, and the candidates from `start` on and before `end`
 pub record Search : Type 0 where
   pub source : Source
-  pub ends : List ℤ
   pub cells : List Cell
   pub goal : Goal
   pub start : ℕ
@@ -26,15 +25,15 @@ pub record Search : Type 0 where
 
 -- the same of what the code is lent
 abbrev pub search_in : Lent → Search
-search_in s = record { source = source_in s.source; ends = s.ends.now; cells = s.cells.now; goal = s.goal; start = s.start; end = s.end }
+search_in s = record { source = source_in s.source; cells = s.cells.now; goal = s.goal; start = s.start; end = s.end }
 
 -- where the cells of a search's candidates stand
 abbrev pub places_of : Search → CellPlaces
-places_of s = places_from s.source.shape s.ends s.cells
+places_of s = places_from s.source.relations s.cells
 
 -- what the search of a file rests on
-pub record Setting (F : File) (source : Source) (ends : List ℤ) (needs : Needs) (g : Goal) : Type 0 where
-  pub file : FileIn F source ends
+pub record Setting (F : File) (source : Source) (needs : Needs) (g : Goal) : Type 0 where
+  pub file : FileIn F source
   pub goal : goal_of g ≡ F.goal
   pub covers : Covers F F.goal needs
 
@@ -67,11 +66,11 @@ pub record Scans (s : Search) (needs : Needs) (memory : Memory) (r : Option ℕ)
   pub counts : (i : ℕ) → (ViewIn s.source.outline i → ⊥) → get_or memory'.counts i 0 ≡ get_or memory.counts i 0
   pub signs : (i : ℕ) → (ViewIn s.source.outline i → ⊥) → get_or memory'.signs i 0 ≡ get_or memory.signs i 0
   pub inside : IfSome r (λ k. k < s.end)
-  pub found : (F : File) → Setting F s.source s.ends needs s.goal → Digits F (places_of s) → At F memory s.start → s.start ≤ s.end
+  pub found : (F : File) → Setting F s.source needs s.goal → Digits F (places_of s) → At F memory s.start → s.start ≤ s.end
       → FirstFound F s r memory'.work
 
 pub record Searched (s : Search) (work : List ℤ) (r : Option ℕ) (work' : List ℤ) : Type 0 where
   pub only : OnlySearched s work work'
   pub inside : IfSome r (λ k. k < s.end)
-  pub found : (F : File) → FileIn F s.source s.ends → goal_of s.goal ≡ F.goal → Digits F (places_of s) → area ≤ length work
+  pub found : (F : File) → FileIn F s.source → goal_of s.goal ≡ F.goal → Digits F (places_of s) → area ≤ length work
       → s.start ≤ s.end → FirstFound F s r work'

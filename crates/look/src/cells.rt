@@ -2,7 +2,8 @@
 ghost use Rattle.std.specs.Prelude.{◌≡◌, ◌≤◌, take};
 ghost use Rattle.look.specs.Cells.{RowAdded, TableAdded, CellsOf};
 
-use catalog::arrays;
+use catalog::relation;
+use catalog::relation::Relation;
 
 #[derive(Clone, Copy)]
 pub struct Cell {
@@ -35,15 +36,15 @@ fn add_table(table: u8, rows: u8, columns: u8, n: u32, cells: &mut [Cell]) -> u3
     all
 }
 
-// All cells, and their number. Arrays that are of no file may say more cells than there is room for.
+// All cells, and their number. Relations that are of no file may say more cells than there is room for.
 // Refused: the first table left out; columns for rows.
-pub(crate) fn cells_of(shape: &[u8], tables: u8, cells: &mut [Cell]) -> u32
-    ensures { CellsOf shape.now tables cells.old result cells.new }
+pub(crate) fn cells_of(relations: &[Relation], tables: u8, cells: &mut [Cell]) -> u32
+    ensures { CellsOf relations.now tables cells.old result cells.new }
 {
     let mut all: u32 = 0;
     for t in 0..tables {
-        let rows = arrays::bound_of(shape, t);
-        let columns = arrays::width_of(shape, t);
+        let rows = relation::bound_of(relations, t);
+        let columns = relation::width_of(relations, t);
         all = add_table(t, rows, columns, all, cells);
     }
     all

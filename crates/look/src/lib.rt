@@ -68,11 +68,10 @@ fn looked(
     ensures { Looked p start count work.old instance.old result work.new instance.new }
 {
     let bytes = p.bytes;
-    let shape = p.shape;
-    let ends = p.ends;
+    let relations = p.relations;
     let n = p.candidates;
     let mut all = [NO_CELL; 512];
-    let number = cells::cells_of(&shape, p.outline.tables, &mut all);
+    let number = cells::cells_of(&relations, p.outline.tables, &mut all);
     if instance.len() < (number as usize) {
         return Err(Reason::Instance.at(0));
     }
@@ -83,10 +82,9 @@ fn looked(
     let search = Search {
         source: Source {
             bytes: &bytes,
-            shape: &shape,
+            relations: &relations,
             outline: p.outline,
         },
-        ends: &ends,
         cells: cells::first(&all, number),
         goal: p.goal,
         start,

@@ -2,7 +2,8 @@
 ghost use Rattle.look.specs.Moves.{places_in, DigitPut, TakesRow, CandidatePut, Moved};
 
 use super::cells::Cell;
-use catalog::arrays;
+use catalog::relation;
+use catalog::relation::Relation;
 use store;
 use store::Row;
 
@@ -20,20 +21,19 @@ struct TakenRow {
     left: u64,
 }
 
-// The cells of the tables, and the arrays that say the column of each.
+// The cells of the tables, and the relations that say the column of each.
 #[derive(Clone, Copy)]
 pub(crate) struct Places<'a> {
-    pub(crate) shape: &'a [u8],
-    pub(crate) ends: &'a [i32],
+    pub(crate) relations: &'a [Relation],
     pub(crate) cells: &'a [Cell],
 }
 
 impl<'a> Places<'a> {
     // A cell takes the last digit of the new quotient; both quotients go on without it.
     fn put_digit(&self, cell: Cell, q: Quotients, work: &mut [i32]) -> Quotients
-        ensures { DigitPut self.now.shape.now self.now.ends.now cell q work.old result work.new }
+        ensures { DigitPut self.now.relations.now cell q work.old result work.new }
     {
-        let d = arrays::domain_of(self.shape, self.ends, cell.table, cell.column);
+        let d = relation::domain_of(self.relations, cell.table, cell.column);
         let size = d.size() as u64;
         if size == 0 {
             return q;
@@ -55,12 +55,12 @@ impl<'a> Places<'a> {
 
     // The row of a table's first columns that the last digits of q give, from the last column back.
     fn take_row(&self, table: u8, width: u8, q: u64) -> TakenRow
-        ensures { TakesRow self.now.shape.now self.now.ends.now table width q result }
+        ensures { TakesRow self.now.relations.now table width q result }
     {
         let mut row = store::empty_row();
         let mut left = q;
         for c in (0..width).rev() {
-            let d = arrays::domain_of(self.shape, self.ends, table, c);
+            let d = relation::domain_of(self.relations, table, c);
             let size = d.size() as u64;
             if size == 0 {
                 return TakenRow { row, left };

@@ -11,11 +11,10 @@ use cases::{judgement, needs};
 use catalog::plan::Goal;
 use catalog::source::Source;
 
-// A file, the ends of its ranges and the cells of its tables, its goal, and the candidates from `start` on and before `end`.
+// A file and the cells of its tables, its goal, and the candidates from `start` on and before `end`.
 #[derive(Clone, Copy)]
 pub(crate) struct Search<'a> {
     pub(crate) source: Source<'a>,
-    pub(crate) ends: &'a [i32],
     pub(crate) cells: &'a [Cell],
     pub(crate) goal: Goal,
     pub(crate) start: u64,
@@ -28,8 +27,7 @@ impl<'a> Search<'a> {
         ensures { places_in result ≡ places_of (search_in self.now) }
     {
         Places {
-            shape: self.source.shape,
-            ends: self.ends,
+            relations: self.source.relations,
             cells: self.cells,
         }
     }

@@ -1,7 +1,7 @@
 -- What skipping a form comes to, by its token.
 -- Assumes nothing.
 use mathlib.Core.Path.{◌≡◌, refl, sym, ap, ◌∙◌}
-use mathlib.Core.Bool.{Bool, true, false, ◌&&◌, cond}
+use mathlib.Core.Bool.{Bool, true, ◌&&◌}
 use mathlib.Core.List.{List, [], ◌∷◌}
 use Prim.Native.Nat.{ℕ, ◌+◌, ◌≤◌, ◌<◌}
 use native.Mathlib.Omega.{arith}
@@ -17,12 +17,13 @@ use Rattle.language.proofs.PrefixForms.{read_e-step, read_c-step}
 use Rattle.prefix.specs.Skipped.{FormEnd, skip_of, skipped, twice, open_of, opened_setting, behind_e, behind_c}
 use Rattle.prefix.specs.declared.Setting.{Setting}
 use Rattle.meaning.proofs.Listed.{length-listed}
-use Rattle.catalog.specs.Arrays.{width_at}
+use Rattle.catalog.specs.Relations.{width_at}
 use Rattle.catalog.specs.Items.{relations_in, open_in}
 use Rattle.catalog.proofs.ItemLaws.{widths-number, opened-more, opened-open}
 use Rattle.prefix.proofs.Fields.{if-next, if-passed}
-use Rattle.prefix.proofs.Ends.{field-if, field_e, field_c}
-use Rattle.prefix.proofs.Skips.{Level, level-refl, level-done, level-bind, level-at, next-is, past_end, then-further, then_next, then-stop}
+use Rattle.prefix.proofs.Ends.{field-if}
+use Rattle.prefix.proofs.Skips.{Level, level-refl, level-done, level-bind, level-at, next-is, then-further, then-stop}
+use Rattle.catalog.specs.declared.relation.Relation.{Relation}
 
 -- a token that is not the least of those left
 pub past : {k t : ℕ} → k ≤ t → (t ≡ k → ⊥) → k + 1 ≤ t
@@ -199,16 +200,16 @@ module _ (frame : List ℕ) (at : ℕ) (o : Open) where
     pub exists-stop : r ≡ FormEnd.refused n → skipped frame at (existing o read_c) ≡ FormEnd.refused n
     exists-stop k = rw (lt-ltb (length o.widths) 6 h) (then-stop frame (byte_if 6 (λ i. ltb i (length o.relations))) _ at n e k)
 
--- in arrays
-module _ (frame : List ℕ) (at : ℕ) (shape : List ℕ) (s : Setting) where
+-- in relations
+module _ (frame : List ℕ) (at : ℕ) (relations : List Relation) (s : Setting) where
   abbrev X : Open
-  X = open_of shape s
+  X = open_of relations s
 
   pub open-number : length X.widths ≡ s.items.number
-  open-number = sym (widths-number s.items shape)
+  open-number = sym (widths-number s.items relations)
 
   relation-test : {r : FormEnd} → r ≡ skipped frame at (byte_if 6 (λ b. ltb b s.earlier)) → r ≡ skipped frame at (byte_if 6 (λ b. ltb b (length X.relations)))
-  relation-test e = e ∙ ap (λ k. skipped frame at (byte_if 6 (λ b. ltb b k))) (sym (length-listed (width_at shape) s.earlier))
+  relation-test e = e ∙ ap (λ k. skipped frame at (byte_if 6 (λ b. ltb b k))) (sym (length-listed (width_at relations) s.earlier))
 
   few : s.items.number < 6 → length X.widths < 6
   few h = omega (arith, open-number)
@@ -217,13 +218,13 @@ module _ (frame : List ℕ) (at : ℕ) (shape : List ℕ) (s : Setting) where
   refused-seventh h = exists-full frame at X (omega (arith, open-number))
 
   module _ (h : s.items.number < 6) {n : ℕ} {r : FormEnd} (e : r ≡ skipped frame at (byte_if 6 (λ b. ltb b s.earlier))) where
-    pub looked-next : r ≡ FormEnd.next n → {i : ℕ} → i ≡ get_or frame at 0 → skipped frame at (existing X read_c) ≡ skipped frame n (read_c (open_of shape (opened_setting s i)))
+    pub looked-next : r ≡ FormEnd.next n → {i : ℕ} → i ≡ get_or frame at 0 → skipped frame at (existing X read_c) ≡ skipped frame n (read_c (open_of relations (opened_setting s i)))
     looked-next k {i} q =
         let b : get_or frame at 0 < s.earlier = ltb-true (get_or frame at 0) s.earlier (if-passed frame at 6 (λ b. ltb b s.earlier) e k).0 in
         exists-next frame at X (few h) (relation-test e) k
         ∙ ap (λ x. skipped frame n (read_c x))
-        (opened-open shape s.earlier (relations_in s.items) b
-        ∙ ap (open_in shape s.earlier) (sym (opened-more s.items (get_or frame at 0) h)) ∙ ap (λ j. open_of shape (opened_setting s j)) (sym q))
+        (opened-open relations s.earlier (relations_in s.items) b
+        ∙ ap (open_in relations s.earlier) (sym (opened-more s.items (get_or frame at 0) h)) ∙ ap (λ j. open_of relations (opened_setting s j)) (sym q))
 
     pub looked-further : r ≡ FormEnd.next n → (at < n) × (n ≤ length frame)
     looked-further k =

@@ -5,6 +5,7 @@ use Rattle.text.specs.declared.refusal.Reason.{Reason}
 use Rattle.meaning.specs.Syntax.{Expr, Cond}
 use Rattle.language.specs.Reading.{Read, Reader, Open, ◌>>=◌, choose, expressions, conditions, read_e, read_c}
 use Rattle.catalog.specs.Items.{relations_in, open_in, opened_items}
+use Rattle.catalog.specs.declared.relation.Relation.{Relation}
 use Rattle.prefix.specs.declared.Setting.{Setting}
 
 -- where the bytes behind a form start, or the number of its refusal
@@ -32,8 +33,8 @@ twice r = r >>= λ _. r
 
 -- ---- what is open where an expression stands
 
-abbrev pub open_of : List ℕ → Setting → Open
-open_of shape s = open_in shape s.earlier (relations_in s.items)
+abbrev pub open_of : List Relation → Setting → Open
+open_of rs s = open_in rs s.earlier (relations_in s.items)
 
 abbrev pub opened_setting : Setting → ℕ → Setting
 opened_setting s r = record { items = opened_items s.items r; earlier = s.earlier }

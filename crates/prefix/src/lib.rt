@@ -7,8 +7,9 @@ ghost use Rattle.catalog.specs.Items.{relations_in, widths_in};
 ghost use Rattle.text.specs.Refusals.{number_of};
 ghost use Rattle.prefix.specs.Skipped.{skip_told, skipped, twice, open_of, opened_setting, behind_e, behind_c};
 
-use catalog::items::{Items, width};
-use catalog::{frames, items};
+use catalog::frames;
+use catalog::items::Items;
+use catalog::relation::Relation;
 use slice::item_at;
 use text::refusal::Reason;
 
@@ -26,30 +27,18 @@ impl Setting {
         ensures { result ≡ opened_setting self relation }
     {
         Setting {
-            items: items::opened(self.items, relation),
+            items: self.items.opened(relation),
             earlier: self.earlier,
         }
     }
 }
 
-// A frame, read where so much is open; the shape tells how many columns each relation has.
+// A frame, read where so much is open; the relations tell how many columns each has.
 #[derive(Clone, Copy)]
 pub struct Reader<'a> {
     pub frame: &'a [u8],
-    pub shape: &'a [u8],
+    pub relations: &'a [Relation],
     pub setting: Setting,
-}
-
-fn wide(x: u8) -> u16
-    ensures { result ≡ x }
-{
-    x as u16
-}
-
-fn within(x: u16, lo: u16, hi: u16) -> bool
-    ensures { result ≡ leb lo x && leb x hi }
-{
-    lo <= x && x <= hi
 }
 
 // One byte, whose test the caller has made.
@@ -76,12 +65,8 @@ pub fn below(frame: &[u8], at: usize, reason: Reason, n: u8) -> Result<usize, Re
 pub fn between(frame: &[u8], at: usize, reason: Reason, lo: u8, hi: u8) -> Result<usize, Reason>
     ensures { skip_told result ≡ skipped frame.now at (byte_if (number_of reason) (λ b. leb lo b && leb b hi)) }
 {
-    tested(
-        frame,
-        at,
-        reason,
-        within(wide(item_at(frame, at, 0)), wide(lo), wide(hi)),
-    )
+    let b = item_at(frame, at, 0);
+    tested(frame, at, reason, (lo..=hi).contains(&b))
 }
 
 // Two bytes.
@@ -104,7 +89,8 @@ fn step(frame: &[u8], at: usize) -> Result<usize, Reason>
     ensures { skip_told result ≡ skipped frame.now at step_r }
 {
     let next = two_bytes(frame, at)?;
-    if within(frames::word_at(frame, at), 1, 1000) {
+    let number = frames::word_at(frame, at);
+    if (1..=1000).contains(&number) {
         Ok(next)
     } else {
         Err(Reason::Limit)
@@ -115,7 +101,7 @@ impl Reader<'_> {
     // A from item, and one of its columns.
     // Refused: 5 for 6; the columns of the first from item.
     pub fn place(&self, at: usize) -> Result<usize, Reason>
-        ensures { skip_told result ≡ skipped self.now.frame.now at (place_r (widths_in self.now.shape.now (relations_in self.now.setting.items))) }
+        ensures { skip_told result ≡ skipped self.now.frame.now at (place_r (widths_in self.now.relations.now (relations_in self.now.setting.items))) }
     {
         let items = self.setting.items;
         let item = item_at(self.frame, at, 0);
@@ -124,7 +110,7 @@ impl Reader<'_> {
             self.frame,
             next,
             Reason::Reference,
-            width(items, self.shape, item),
+            items.width(self.relations, item),
         )
     }
 
@@ -132,7 +118,7 @@ impl Reader<'_> {
     // Refused: a condition; the form at 0.
     #[cycle(forms)]
     pub fn expression(&self, at: usize) -> Result<usize, Reason>
-        ensures { skip_told result ≡ skipped self.now.frame.now at (read_e (open_of self.now.shape.now self.now.setting)) }
+        ensures { skip_told result ≡ skipped self.now.frame.now at (read_e (open_of self.now.relations.now self.now.setting)) }
     {
         if self.frame.len() <= at {
             return Err(Reason::Form);
@@ -144,7 +130,7 @@ impl Reader<'_> {
     // Refused: the form at 0; an expression.
     #[cycle(forms)]
     pub fn condition(&self, at: usize) -> Result<usize, Reason>
-        ensures { skip_told result ≡ skipped self.now.frame.now at (read_c (open_of self.now.shape.now self.now.setting)) }
+        ensures { skip_told result ≡ skipped self.now.frame.now at (read_c (open_of self.now.relations.now self.now.setting)) }
     {
         if self.frame.len() <= at {
             return Err(Reason::Form);
@@ -154,7 +140,7 @@ impl Reader<'_> {
 
     #[cycle(forms)]
     fn two_expressions(&self, at: usize) -> Result<usize, Reason>
-        ensures { skip_told result ≡ skipped self.now.frame.now at (twice (read_e (open_of self.now.shape.now self.now.setting))) }
+        ensures { skip_told result ≡ skipped self.now.frame.now at (twice (read_e (open_of self.now.relations.now self.now.setting))) }
     {
         let next = self.expression(at)?;
         self.expression(next)
@@ -162,7 +148,7 @@ impl Reader<'_> {
 
     #[cycle(forms)]
     fn two_conditions(&self, at: usize) -> Result<usize, Reason>
-        ensures { skip_told result ≡ skipped self.now.frame.now at (twice (read_c (open_of self.now.shape.now self.now.setting))) }
+        ensures { skip_told result ≡ skipped self.now.frame.now at (twice (read_c (open_of self.now.relations.now self.now.setting))) }
     {
         let next = self.condition(at)?;
         self.condition(next)
@@ -172,7 +158,7 @@ impl Reader<'_> {
     // Refused: 07 is unknown.
     #[cycle(forms)]
     fn behind_expression(&self, at: usize, token: u8) -> Result<usize, Reason>
-        ensures { skip_told result ≡ skipped self.now.frame.now at (behind_e (open_of self.now.shape.now self.now.setting) token) }
+        ensures { skip_told result ≡ skipped self.now.frame.now at (behind_e (open_of self.now.relations.now self.now.setting) token) }
     {
         match token {
             0x00 => two_bytes(self.frame, at),
@@ -199,7 +185,7 @@ impl Reader<'_> {
     #[cycle(forms)]
     fn behind_condition(&self, at: usize, token: u8) -> Result<usize, Reason>
         requires { at ≤ length self.now.frame.now }
-        ensures { skip_told result ≡ skipped self.now.frame.now at (behind_c (open_of self.now.shape.now self.now.setting) token) }
+        ensures { skip_told result ≡ skipped self.now.frame.now at (behind_c (open_of self.now.relations.now self.now.setting) token) }
     {
         match token {
             0x10 => Ok(at),
@@ -214,7 +200,7 @@ impl Reader<'_> {
     // Behind token 17: a relation, and a condition with its row open. A seventh item is refused before the relation is read.
     #[cycle(forms)]
     fn behind_exists(&self, at: usize) -> Result<usize, Reason>
-        ensures { skip_told result ≡ skipped self.now.frame.now at (existing (open_of self.now.shape.now self.now.setting) read_c) }
+        ensures { skip_told result ≡ skipped self.now.frame.now at (existing (open_of self.now.relations.now self.now.setting) read_c) }
     {
         let setting = self.setting;
         if 6 <= setting.items.number {
@@ -223,7 +209,7 @@ impl Reader<'_> {
         let next = below(self.frame, at, Reason::Reference, setting.earlier)?;
         let inner = Reader {
             frame: self.frame,
-            shape: self.shape,
+            relations: self.relations,
             setting: setting.opened(item_at(self.frame, at, 0)),
         };
         inner.condition(next)

@@ -23,10 +23,11 @@ use Rattle.std.proofs.Common.{Ok}
 use Rattle.checker.specs.Plans.{Plans}
 use Rattle.report.specs.Lines.{Grown, Tabled, TablesLined, CaseLined}
 use Rattle.report.proofs.LineLaws.{grown-line, grown-more}
+use Rattle.catalog.specs.declared.relation.Relation.{Relation}
 
 -- the plan of an accepted text says where the cells of a candidate stand
 pub tabled : (text : List ℕ) (p : Plan) → Plans (file_of text) (Ok p) → (F : File) (k : ℕ) {shows : List ℤ} → file_of text ≡ Outcome.accepted F
-    → cell_count F ≤ length shows → take (cell_count F) shows ≡ map shown (cells F k) → Tabled F (cells F k) p.shape p.outline.tables shows
+    → cell_count F ≤ length shows → take (cell_count F) shows ≡ map shown (cells F k) → Tabled F (cells F k) p.relations p.outline.tables shows
 tabled text p P F k {shows} e room same =
     let Q : PlanOf F p = subst (λ (o : Outcome). Plans o (Ok p)) e P in
     let n : length (cells F k) ≡ cell_count F = length-cells F k in
@@ -40,8 +41,8 @@ tabled text p P F k {shows} e room same =
       shows = ap (λ i. take i shows) n ∙ same;
     }
 
-pub case-lined : {shape : List ℕ} {tables k : ℕ} {shows : List ℤ} {f out out₁ out' : List ℕ} {at r : ℕ} → f ≡ case_frame k → Written f 0 out at out₁
-    → TablesLined shape tables shows at out₁ r out' → CaseLined shape tables k shows out r out'
+pub case-lined : {relations : List Relation} {tables k : ℕ} {shows : List ℤ} {f out out₁ out' : List ℕ} {at r : ℕ} → f ≡ case_frame k → Written f 0 out at out₁
+    → TablesLined relations tables shows at out₁ r out' → CaseLined relations tables k shows out r out'
 unfolding database
 case-lined {k = k} {f = f} {out} {out₁} {at = at} own w L = record {
   lined = λ F t room.

@@ -157,7 +157,7 @@ module _ (text out : List ℕ) where
       go (Outcome.accepted F) q = absurd q
 
   module _ {a : Result Answered Refusal} {inst : List ℤ} {out' : List ℕ} {r : ℕ} (h : output_room ≤ length out) (S : Said text (answer_of a) inst) where
-    pub printed-case : (p : Plan) {k : ℕ} {x : Answered} → a ≡ Ok x → x ≡ Case k → Plans (file_of text) (Ok p) → CaseLined p.shape p.outline.tables k inst out r out' → Printed text out r out'
+    pub printed-case : (p : Plan) {k : ℕ} {x : Answered} → a ≡ Ok x → x ≡ Case k → Plans (file_of text) (Ok p) → CaseLined p.relations p.outline.tables k inst out r out' → Printed text out r out'
     printed-case p {k} e f P L =
         let C = S.case k (ap answer_of (e ∙ ap Ok f)) in
         printed h (ap outcome_frames C.accepted ∙ ap (answer_frames C.file) C.answer)

@@ -13,12 +13,13 @@ use Rattle.meaning.specs.Syntax.{Table, File}
 use Rattle.meaning.specs.Candidates.{cell_columns, cut_rows, cut}
 use Rattle.meaning.proofs.Elements.{all-at}
 use Rattle.meaning.proofs.Numbering.{length-cut_rows, joined-cut_rows}
-use Rattle.catalog.specs.Arrays.{width_at, bound_at}
+use Rattle.catalog.specs.Relations.{width_at, bound_at}
 use Rattle.language.specs.Legal.{LegalTable, table_at}
 use Rattle.look.proofs.CellLaws.{length-copies}
 use Rattle.language.specs.OutputOf.{number_bytes, rows_frame, rows_frames}
 use Rattle.report.specs.Lines.{Grown, TableLined, Tabled, TablesLined}
 use Rattle.report.proofs.LineLaws.{grown-more, grown-none}
+use Rattle.catalog.specs.declared.relation.Relation.{Relation}
 
 -- ---- a part of a list
 
@@ -60,15 +61,15 @@ pub record Reached (F : File) (vs : List Value) (at : ℕ) (out₀ : List ℕ) (
   pub near : place ≤ at + 135 * t
 
 -- so are those of the first t tables, and `rest` is what is left of the cells
-pub record Stage (shape : List ℕ) (tables : ℕ) (cells : List ℤ) (at : ℕ) (out₀ : List ℕ) (t place : ℕ) (rest : List ℤ) (out : List ℕ) : Type 0 where
+pub record Stage (relations : List Relation) (tables : ℕ) (cells : List ℤ) (at : ℕ) (out₀ : List ℕ) (t place : ℕ) (rest : List ℤ) (out : List ℕ) : Type 0 where
   pub first : ℕ
   pub left : rest ≡ drop first cells
   pub within : t ≤ tables
   pub size : length out ≡ length out₀
-  pub reached : (F : File) (vs : List Value) → Tabled F vs shape tables cells → at + 2160 ≤ length out₀ → Reached F vs at out₀ t first place out
+  pub reached : (F : File) (vs : List Value) → Tabled F vs relations tables cells → at + 2160 ≤ length out₀ → Reached F vs at out₀ t first place out
 
-module _ {shape : List ℕ} {tables : ℕ} {cells : List ℤ} {at : ℕ} {out₀ : List ℕ} where
-  pub stage-none : Stage shape tables cells at out₀ 0 at cells out₀
+module _ {relations : List Relation} {tables : ℕ} {cells : List ℤ} {at : ℕ} {out₀ : List ℕ} where
+  pub stage-none : Stage relations tables cells at out₀ 0 at cells out₀
   stage-none = record {
     first = 0;
     left = refl;
@@ -77,8 +78,8 @@ module _ {shape : List ℕ} {tables : ℕ} {cells : List ℤ} {at : ℕ} {out₀
     reached = λ F vs T room. record { done = []; grown = grown-none at out₀; whole = refl; left = omega (arith, T.count); near = omega arith };
   }
 
-  module _ {t place rows columns : ℕ} {rest : List ℤ} {out : List ℕ} (S : Stage shape tables cells at out₀ t place rest out) (h : t < tables)
-      (p : rows ≡ bound_at shape t) (q : columns ≡ width_at shape t) where
+  module _ {t place rows columns : ℕ} {rest : List ℤ} {out : List ℕ} (S : Stage relations tables cells at out₀ t place rest out) (h : t < tables)
+      (p : rows ≡ bound_at relations t) (q : columns ≡ width_at relations t) where
     -- a table, its cells, and what is left behind them
     record Own (F : File) (vs : List Value) : Type 0 where
       here : drop t F.tables ≡ table_at F.tables t ∷ drop (suc t) F.tables
@@ -89,7 +90,7 @@ module _ {shape : List ℕ} {tables : ℕ} {cells : List ℤ} {at : ℕ} {out₀
       inside : S.first + rows * columns ≤ length vs
       there : rows * columns ≤ length rest
 
-    own : (F : File) (vs : List Value) → Tabled F vs shape tables cells → at + 2160 ≤ length out₀ → Own F vs
+    own : (F : File) (vs : List Value) → Tabled F vs relations tables cells → at + 2160 ≤ length out₀ → Own F vs
     own F vs T room =
         let R = S.reached F vs T room in
         let ts = F.tables in
@@ -115,12 +116,12 @@ module _ {shape : List ℕ} {tables : ℕ} {cells : List ℤ} {at : ℕ} {out₀
         }
 
     -- no file has fewer cells than its tables need
-    pub stage-short : length rest < rows * columns → TablesLined shape tables cells at out₀ place out
+    pub stage-short : length rest < rows * columns → TablesLined relations tables cells at out₀ place out
     stage-short l = record { lined = λ F vs T room. absurd (let o = own F vs T room in omega (arith, o.there)) }
 
     module _ {r : ℕ} {mine behind : List ℤ} {out' : List ℕ} (m : mine ≡ take (rows * columns) rest) (b : behind ≡ drop (rows * columns) rest)
         (L : TableLined t rows mine place out r out') where
-      further : (F : File) (vs : List Value) → Tabled F vs shape tables cells → at + 2160 ≤ length out₀ → Reached F vs at out₀ (t + 1) (S.first + rows * columns) r out'
+      further : (F : File) (vs : List Value) → Tabled F vs relations tables cells → at + 2160 ≤ length out₀ → Reached F vs at out₀ (t + 1) (S.first + rows * columns) r out'
       further F vs T room =
           let R = S.reached F vs T room in
           let O = own F vs T room in
@@ -150,7 +151,7 @@ module _ {shape : List ℕ} {tables : ℕ} {cells : List ℤ} {at : ℕ} {out₀
             near = omega (arith, L.near, R.near);
           }
 
-      pub stage-more : Stage shape tables cells at out₀ (t + 1) r behind out'
+      pub stage-more : Stage relations tables cells at out₀ (t + 1) r behind out'
       stage-more = record {
         first = S.first + rows * columns;
         left = b ∙ ap (drop (rows * columns)) S.left ∙ drop-drop (rows * columns) S.first cells;
@@ -159,7 +160,7 @@ module _ {shape : List ℕ} {tables : ℕ} {cells : List ℤ} {at : ℕ} {out₀
         reached = further;
       }
 
-  pub stage-all : {t place : ℕ} {rest : List ℤ} {out : List ℕ} → Stage shape tables cells at out₀ t place rest out → tables ≤ t → TablesLined shape tables cells at out₀ place out
+  pub stage-all : {t place : ℕ} {rest : List ℤ} {out : List ℕ} → Stage relations tables cells at out₀ t place rest out → tables ≤ t → TablesLined relations tables cells at out₀ place out
   stage-all {t} {place} {rest} {out} S h = record {
     lined = λ F vs T room.
         let R = S.reached F vs T room in

@@ -7,7 +7,8 @@ ghost use Rattle.text.specs.Refusals.{number_of};
 ghost use Rattle.language.specs.OutputOf.{case_frame, refusal_frame, Printed};
 ghost use Rattle.report.specs.Lines.{CellsPut, TableLined, TablesLined, CaseLined};
 
-use catalog::arrays;
+use catalog::relation;
+use catalog::relation::Relation;
 use checker::plan;
 use look;
 use look::Answer;
@@ -48,7 +49,7 @@ fn table_line(t: u8, rows: u8, cells: &[i16], out: &mut [u8], at: usize) -> usiz
 // A case: the sizes of the tables, and the cells of all of them, table after table.
 #[derive(Clone, Copy)]
 struct Case<'a> {
-    shape: &'a [u8],
+    relations: &'a [Relation],
     tables: u8,
     cells: &'a [i16],
 }
@@ -56,13 +57,13 @@ struct Case<'a> {
 impl Case<'_> {
     // A line for each table.
     fn table_lines(&self, out: &mut [u8], at: usize) -> usize
-        ensures { TablesLined self.now.shape.now self.now.tables self.now.cells.now at out.old result out.new }
+        ensures { TablesLined self.now.relations.now self.now.tables self.now.cells.now at out.old result out.new }
     {
         let mut place = at;
         let mut rest = self.cells;
         for t in 0..self.tables {
-            let rows = arrays::bound_of(self.shape, t);
-            let columns = arrays::width_of(self.shape, t);
+            let rows = relation::bound_of(self.relations, t);
+            let columns = relation::width_of(self.relations, t);
             let n = (rows as usize) * (columns as usize);
             let Some((own, behind)) = rest.split_at_checked(n) else {
                 return place;
@@ -75,7 +76,7 @@ impl Case<'_> {
 
     // The lines of case k.
     fn lines(&self, k: u64, out: &mut [u8]) -> usize
-        ensures { CaseLined self.now.shape.now self.now.tables k self.now.cells.now out.old result out.new }
+        ensures { CaseLined self.now.relations.now self.now.tables k self.now.cells.now out.old result out.new }
     {
         let frame = case_frame(k);
         let at = text::write_line(&frame, out, 0);
@@ -118,7 +119,7 @@ pub fn output(text: &[u8], out: &mut [u8]) -> usize
         Ok(plan) => plan,
         Err(refusal) => return refusal_line(refusal, out),
     };
-    let shape = p.shape;
+    let relations = p.relations;
     let tables = p.outline.tables;
     let mut work = [0i32; look::AREA];
     let mut cells = [0i16; 512];
@@ -126,7 +127,7 @@ pub fn output(text: &[u8], out: &mut [u8]) -> usize
     match a {
         Ok(Answer::Case(k)) => {
             let case = Case {
-                shape: &shape,
+                relations: &relations,
                 tables,
                 cells: &cells,
             };

@@ -61,7 +61,7 @@ refused-trial out x {counts} {work} a b h e = rw e (enough-trial a b (refused-te
 -- ---- an accepted text
 
 pub every-relation : {source : Source} {needs : Needs} {g : Goal} {counts counts₁ : List ℕ} {work : List ℤ} {memory₂ memory₃ : Memory} {b : Bool}
-    → TablesCounted source.shape source.outline.tables counts counts₁ → NeedsOf source g needs
+    → TablesCounted source.relations source.outline.tables counts counts₁ → NeedsOf source g needs
     → IsCase source needs g (memory_from counts₁ (replicate 16 0) work) b memory₂
     → Evaluates source all_needs memory₂ memory₃ → EveryRelation source g counts work b memory₃.counts memory₃.work
 every-relation {source} {needs} {g} {counts₁ = counts₁} {work} {memory₂} C N J E = record {

@@ -36,7 +36,7 @@ pub record EveryRelation (source : Source) (g : Goal) (counts : List ℕ) (work 
   pub cells : OnlyCells (ViewIn source.outline) work work'
   pub size : length counts' ≡ length counts
   pub others : (i : ℕ) → source.outline.tables ≤ i → (ViewIn source.outline i → ⊥) → get_or counts' i 0 ≡ get_or counts i 0
-  pub evaluated : (F : File) {ends : List ℤ} → FileIn F source ends → goal_of g ≡ F.goal → (d : Database) → Shaped F d → TablesStand F d work
+  pub evaluated : (F : File) → FileIn F source → goal_of g ≡ F.goal → (d : Database) → Shaped F d → TablesStand F d work
       → area ≤ length work → 16 ≤ length counts → Evaluated F d (cond r 1 0) counts' work'
 
 -- "A refusal returns its number and a line .. no buffer changes"

@@ -51,10 +51,10 @@ pub extern "C" fn sakthveim_evaluate(text: &[u8], counts: &mut [u8], work: &mut 
         Err(refusal) => return refusal.packed(),
     };
     let bytes = p.bytes;
-    let shape = p.shape;
+    let relations = p.relations;
     let source = Source {
         bytes: &bytes,
-        shape: &shape,
+        relations: &relations,
         outline: p.outline,
     };
     if every_relation(&source, p.goal, counts, work) {

@@ -44,7 +44,7 @@ fn same_rows(work: &[i32], a: u8, i: u8, b: u8, j: u8, width: u8) -> bool
     (0..width).all(|c| {
         let x = store::cell(work, a as usize, i as usize, c as usize);
         let y = store::cell(work, b as usize, j as usize, c as usize);
-        x.same(y)
+        x == y
     })
 }
 

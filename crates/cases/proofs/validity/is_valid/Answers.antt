@@ -2,8 +2,8 @@
 use Rattle.cases.proofs.ValidLaws.{invalid-keys, valid-both}
 use Rattle.cases.proofs.validity.is_valid.Goals as goal
 
-pub returns-then-not-keys_hold : goal.returns-then-not-keys_hold
-returns-then-not-keys_hold c = invalid-keys c.keys_hold.ensures (c.if-not-keys_hold.true)
+pub returns-then-keys_hold : goal.returns-then-keys_hold
+returns-then-keys_hold c = valid-both c.keys_hold.ensures (c.if-keys_hold.true) c.foreign_keys_hold.ensures
 
-pub returns : goal.returns
-returns c = valid-both c.keys_hold.ensures (c.if-not-keys_hold.false) c.foreign_keys_hold.ensures
+pub returns-else-keys_hold : goal.returns-else-keys_hold
+returns-else-keys_hold c = invalid-keys c.keys_hold.ensures (c.if-keys_hold.false)

@@ -2,8 +2,8 @@
 use native.Mathlib.Omega.{arith}
 use Rattle.checker.proofs.entries.joined_bound.Goals as goal
 
-pub returns-then-union : goal.returns-then-union
-returns-then-union c = rw c.if-union.true c.saturating_add.ensures
+pub returns-in-Union : goal.returns-in-Union
+returns-in-Union c = rw c.in-Union.is c.saturating_add.ensures
 
-pub returns-else-union : goal.returns-else-union
-returns-else-union c = rw c.if-union.false (omega (arith, c.least.ensures))
+pub returns-in-Intersection : goal.returns-in-Intersection
+returns-in-Intersection c = rw c.in-Intersection.is (omega (arith, c.min.ensures))

@@ -10,14 +10,14 @@ use Rattle.checker.proofs.entries.times_row.Goals as goal
 pub loop-c-init : goal.loop-c-init
 loop-c-init c = (
   omega arith,
-  ap (λ k. capped_product c.args.n (columns_from c.args.shape.now c.args.ends.now c.args.t 0 k))
+  ap (λ k. capped_product c.args.n (columns_from c.args.relations.now c.args.t 0 k))
       (all_left c.width_of-width.result),
 )
 
 pub loop-c-preserved : goal.loop-c-preserved
 loop-c-preserved c = (
   omega (arith, c.capped-p.ensures),
-  row-turn c.args.shape.now c.args.ends.now
+  row-turn c.args.relations.now
       c.args.t c.loop-c.c c.width_of-width.result c.loop-c.p
       c.capped-p.result (omega arith) (c.capped-p.ensures ∙ ap (λ s. min (c.loop-c.p * s) too_many) (c.size.ensures.0 ∙ ap size c.domain_of.ensures))
       ∙ c.loop-c.invariant.1,
@@ -25,7 +25,7 @@ loop-c-preserved c = (
 
 pub returns : goal.returns
 returns c = (
-  rw c.width_of-width.ensures at (sym (no-columns c.args.shape.now c.args.ends.now c.args.t
+  rw c.width_of-width.ensures at (sym (no-columns c.args.relations.now c.args.t
       c.loop-c.c c.width_of-width.result c.loop-c.p (omega arith)) ∙ c.loop-c.invariant.1),
   c.loop-c.invariant.0,
 )

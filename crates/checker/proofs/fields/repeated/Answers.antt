@@ -1,6 +1,5 @@
 -- `checker::fields::repeated` meets its contract. Assumes nothing.
 use mathlib.Core.Path.{◌≡◌, ap, sym, ◌∙◌}
-use Prim.Native.Nat.{ℕ}
 use native.Mathlib.Omega.{arith}
 use Rattle.text.specs.Refusals.{number_of}
 use Rattle.text.proofs.Exits.{exit_is}

@@ -16,7 +16,7 @@ pub walk-requires : goal.walk-requires
 walk-requires c = used-small c.args.text.now c.in_ok-frames.frames c.in_ok-frames.ensures
 
 pub returns-in_err-s : goal.returns-in_err-s
-returns-in_err-s c = way-stopped c.args.text.now c.in_ok-frames.frames c.in_ok-frames.ensures _ _ c.in_err-s.ensures (exit_is _ c.from_residual-in_err-s.ensures.1)
+returns-in_err-s c = way-stopped c.args.text.now c.in_ok-frames.frames c.in_ok-frames.ensures _ c.none-relations.ensures _ _ c.in_err-s.ensures (exit_is _ c.from_residual-in_err-s.ensures.1)
 
 pub returns : goal.returns
-returns c = way-whole c.args.text.now c.in_ok-frames.frames c.in_ok-frames.ensures _ c.in_ok-s.ensures c.plan_whole.ensures
+returns c = way-whole c.args.text.now c.in_ok-frames.frames c.in_ok-frames.ensures _ c.none-relations.ensures _ c.in_ok-s.ensures c.plan_whole.ensures

@@ -10,8 +10,8 @@ use Rattle.checker.proofs.WalkLaws.{Left}
 use Rattle.checker.proofs.plan.walk.Given as goal
 
 abbrev pub invariant-loop-at : goal.invariant-loop-at
-invariant-loop-at l = (length l.shape ≡ length l.initial.shape) × (length l.ends ≡ length l.initial.ends) × (l.line ≤ l.at)
-    × ((fs : List (List ℕ)) → l.packed ≡ pack fs → DraftIn empty start_progress l.initial.shape l.initial.ends → Left l.packed l.s l.shape l.ends l.at l.line fs)
+invariant-loop-at l = (length l.relations ≡ length l.initial.relations) × (l.line ≤ l.at)
+    × ((fs : List (List ℕ)) → l.packed ≡ pack fs → DraftIn empty start_progress l.initial.relations → Left l.packed l.s l.relations l.at l.line fs)
 
 abbrev pub decreases-loop-at : goal.decreases-loop-at
 decreases-loop-at l = length l.packed - l.at

@@ -7,4 +7,4 @@ pub returns-in_err-table_fault : goal.returns-in_err-table_fault
 returns-in_err-table_fault c = table-refused _ _ (exit_is _ c.from_residual.ensures.1) c.in_err-table_fault.ensures
 
 pub returns : goal.returns
-returns c = table_done c.in_ok-table_fault.ensures c.enter_table.ensures c.with_table.ensures
+returns c = rw c.put_item.ensures (table_done _ c.in_ok-table_fault.ensures c.table_of.ensures c.with_table.ensures)

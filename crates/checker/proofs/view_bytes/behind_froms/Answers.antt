@@ -2,10 +2,10 @@
 use Rattle.checker.specs.ViewFaults.{behind_froms}
 use Rattle.checker.proofs.view_bytes.behind_froms.Goals as goal
 
-pub returns-then-grouped : goal.returns-then-grouped
+pub returns-in-Basic : goal.returns-in-Basic
 unfolding behind_froms
-returns-then-grouped c = rw c.if-grouped.true c.counted_groups.ensures
+returns-in-Basic c = rw c.in-Basic.is c.counted_select.ensures
 
-pub returns-else-grouped : goal.returns-else-grouped
+pub returns-in-Aggregate : goal.returns-in-Aggregate
 unfolding behind_froms
-returns-else-grouped c = rw c.if-grouped.false c.counted_select.ensures
+returns-in-Aggregate c = rw c.in-Aggregate.is c.counted_groups.ensures

@@ -11,10 +11,10 @@ pub returns-in_err-between : goal.returns-in_err-between
 unfolding counted_groups
 returns-in_err-between c =
     let s = c.args.reader.now in
-    count-then s.frame.now c.args.at (within 0 4) (counted_where (open_of s.shape.now s.setting)) c.item_at-g.ensures refl refl (chain-stop _ _ _ c.from_residual.ensures.1 c.in_err-between.ensures)
+    count-then s.frame.now c.args.at (within 0 4) (counted_where (open_of s.relations.now s.setting)) c.item_at-g.ensures refl refl (chain-stop _ _ _ c.from_residual.ensures.1 c.in_err-between.ensures)
 
 pub returns : goal.returns
 unfolding counted_groups
 returns c =
     let s = c.args.reader.now in
-    count-then s.frame.now c.args.at (within 0 4) (counted_where (open_of s.shape.now s.setting)) c.item_at-g.ensures refl refl (chain-go c.in_ok-between.ensures c.counted_where.ensures)
+    count-then s.frame.now c.args.at (within 0 4) (counted_where (open_of s.relations.now s.setting)) c.item_at-g.ensures refl refl (chain-go c.in_ok-between.ensures c.counted_where.ensures)

@@ -11,10 +11,10 @@ pub returns-in_err-between : goal.returns-in_err-between
 unfolding counted_select
 returns-in_err-between c =
     let s = c.args.reader.now in
-    count-then s.frame.now c.args.at (within 1 8) (condition_select (open_of s.shape.now s.setting)) c.item_at-m.ensures refl refl (chain-stop _ _ _ c.from_residual.ensures.1 c.in_err-between.ensures)
+    count-then s.frame.now c.args.at (within 1 8) (condition_select (open_of s.relations.now s.setting)) c.item_at-m.ensures refl refl (chain-stop _ _ _ c.from_residual.ensures.1 c.in_err-between.ensures)
 
 pub returns : goal.returns
 unfolding counted_select
 returns c =
     let s = c.args.reader.now in
-    count-then s.frame.now c.args.at (within 1 8) (condition_select (open_of s.shape.now s.setting)) c.item_at-m.ensures refl refl (chain-go c.in_ok-between.ensures c.condition_select.ensures)
+    count-then s.frame.now c.args.at (within 1 8) (condition_select (open_of s.relations.now s.setting)) c.item_at-m.ensures refl refl (chain-go c.in_ok-between.ensures c.condition_select.ensures)

@@ -10,9 +10,9 @@ pub returns-in_err-next : goal.returns-in_err-next
 returns-in_err-next c =
     let s = c.args.reader.now in
     ap fault_told (exit_is _ c.from_residual.ensures.1)
-    ∙ select-stop _ (open_of s.shape.now s.setting) _ _ c.expressions.ensures (ap skip_told c.in_err-next.was)
+    ∙ select-stop _ (open_of s.relations.now s.setting) _ _ c.expressions.ensures (ap skip_told c.in_err-next.was)
 
 pub returns : goal.returns
 returns c =
     let s = c.args.reader.now in
-    select-next _ (open_of s.shape.now s.setting) _ _ c.expressions.ensures c.requires (ap skip_told c.in_ok-next.was) c.ends_at.ensures
+    select-next _ (open_of s.relations.now s.setting) _ _ c.expressions.ensures c.requires (ap skip_told c.in_ok-next.was) c.ends_at.ensures

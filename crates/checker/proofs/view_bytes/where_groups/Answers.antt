@@ -17,10 +17,10 @@ pub returns-in_err-having : goal.returns-in_err-having
 returns-in_err-having c =
     let s = c.args.reader.now in
     ap fault_told (exit_is _ c.from_residual-in_err-having.ensures.1)
-    ∙ groups-stop _ (open_of s.shape.now s.setting) _ c.condition.ensures _ _ (ap skip_told c.in_ok-next.was) c.places.ensures (ap skip_told c.in_err-having.was)
+    ∙ groups-stop _ (open_of s.relations.now s.setting) _ c.condition.ensures _ _ (ap skip_told c.in_ok-next.was) c.places.ensures (ap skip_told c.in_err-having.was)
 
 pub returns : goal.returns
 returns c =
     let s = c.args.reader.now in
-    groups-next _ (open_of s.shape.now s.setting) _ c.condition.ensures _ _
+    groups-next _ (open_of s.relations.now s.setting) _ c.condition.ensures _ _
     (ap skip_told c.in_ok-next.was) c.places.ensures (ap skip_told c.in_ok-having.was) c.condition_select.ensures

@@ -7,5 +7,5 @@ use Rattle.checker.proofs.view_rules.filtered.Goals as goal
 
 pub returns : goal.returns
 returns c = subst (λ (k : Rule). TestsC c.args.frame.now c.args.at (relations_in c.args.items)
-    c.args.shape.now c.args.ends.now k c.condition.result)
+    c.args.relations.now k c.condition.result)
     c.plain.ensures c.condition.ensures

@@ -10,7 +10,7 @@ use Rattle.prefix.specs.Skipped.{skip_told, twice}
 use Rattle.language.specs.Reading.{byte_if, step, read_e, read_c}
 use Rattle.prefix.proofs.Ends.{field-if, field_step, field_e, field_c}
 use Rattle.prefix.proofs.Skips.{level-refl, past_end, then-further, then_next, then-stop}
-use Rattle.prefix.proofs.Tokens.{past, on-constant, on-place, on-operation, on-rounding, on-choice, on-aggregate, unknown_e, on-always, on-comparison, on-negated, on-connection, on-exists, refused-seventh, looked-next, looked-further, looked-stop, unknown_c, form_e, form_c}
+use Rattle.prefix.proofs.Tokens.{on-constant, on-place, on-operation, on-rounding, on-choice, on-aggregate, unknown_e, on-always, on-comparison, on-negated, on-connection, on-exists, refused-seventh, looked-next, looked-further, looked-stop, unknown_c, form_e, form_c}
 use Rattle.prefix.proofs.Reader.+forms.Goals as goal
 
 abbrev kinds : ℕ → Bool
@@ -38,25 +38,25 @@ pub behind_condition-returns-in_default-2 : goal.behind_condition-returns-in_def
 behind_condition-returns-in_default-2 t c = sym (unknown_c _ _ _ _ (λ l. omega arith))
 
 pub behind_exists-returns-then-setting-ge6 : goal.behind_exists-returns-then-setting-ge6
-behind_exists-returns-then-setting-ge6 t c = let s = c.args.self.now in sym (refused-seventh _ _ s.shape.now s.setting c.if-setting-ge6.true)
+behind_exists-returns-then-setting-ge6 t c = let s = c.args.self.now in sym (refused-seventh _ _ s.relations.now s.setting c.if-setting-ge6.true)
 
 pub behind_exists-condition-requires : goal.behind_exists-condition-requires
 behind_exists-condition-requires t c =
     let s = c.args.self.now in
-    let h = looked-further s.frame.now c.args.at s.shape.now s.setting c.if-setting-ge6.false c.below.ensures (ap skip_told c.in_ok-next.was) in
+    let h = looked-further s.frame.now c.args.at s.relations.now s.setting c.if-setting-ge6.false c.below.ensures (ap skip_told c.in_ok-next.was) in
     (omega arith, tt)
 
 pub behind_exists-returns : goal.behind_exists-returns
 behind_exists-returns t c =
     let s = c.args.self.now in
     rw c.opened.ensures at c.condition.ensures
-    ∙ sym (looked-next _ _ s.shape.now s.setting c.if-setting-ge6.false c.below.ensures (ap skip_told c.in_ok-next.was) c.item_at.ensures)
+    ∙ sym (looked-next _ _ s.relations.now s.setting c.if-setting-ge6.false c.below.ensures (ap skip_told c.in_ok-next.was) c.item_at.ensures)
 
 pub behind_exists-returns-in_err-next : goal.behind_exists-returns-in_err-next
 behind_exists-returns-in_err-next t c =
     let s = c.args.self.now in
     ap skip_told (exit_is _ c.from_residual.ensures.1)
-    ∙ sym (looked-stop _ _ s.shape.now s.setting c.if-setting-ge6.false c.below.ensures (ap skip_told c.in_err-next.was))
+    ∙ sym (looked-stop _ _ s.relations.now s.setting c.if-setting-ge6.false c.below.ensures (ap skip_told c.in_err-next.was))
 
 pub behind_expression-expression-requires : goal.behind_expression-expression-requires
 behind_expression-expression-requires t c = let h = then-further _ field_step _ c.step.ensures (ap skip_told c.in_ok-next-in-5.was) in (omega arith, tt)

@@ -13,13 +13,13 @@ pub returns-in_err-next : goal.returns-in_err-next
 returns-in_err-next c =
     let s = c.args.self.now in
     ap skip_told (exit_is _ c.from_residual.ensures.1)
-    ∙ sym (place-stop _ _ (widths_in s.shape.now (relations_in s.setting.items))
-    (ap₂ ltb c.item_at-item.ensures (widths-number s.setting.items s.shape.now)) c.tested.ensures (ap skip_told c.in_err-next.was))
+    ∙ sym (place-stop _ _ (widths_in s.relations.now (relations_in s.setting.items))
+    (ap₂ ltb c.item_at-item.ensures (widths-number s.setting.items s.relations.now)) c.tested.ensures (ap skip_told c.in_err-next.was))
 
 pub returns : goal.returns
 returns c =
     let s = c.args.self.now in
     c.below.ensures
-    ∙ sym (place-next _ _ (widths_in s.shape.now (relations_in s.setting.items))
-    (ap₂ ltb c.item_at-item.ensures (widths-number s.setting.items s.shape.now)) c.tested.ensures (ap skip_told c.in_ok-next.was)
-    (c.width.ensures ∙ ap (λ i. get_or (widths_in s.shape.now (relations_in s.setting.items)) i 0) c.item_at-item.ensures))
+    ∙ sym (place-next _ _ (widths_in s.relations.now (relations_in s.setting.items))
+    (ap₂ ltb c.item_at-item.ensures (widths-number s.setting.items s.relations.now)) c.tested.ensures (ap skip_told c.in_ok-next.was)
+    (c.width.ensures ∙ ap (λ i. get_or (widths_in s.relations.now (relations_in s.setting.items)) i 0) c.item_at-item.ensures))

@@ -3,4 +3,4 @@ use Rattle.report.proofs.TableLaws.{Stage}
 use Rattle.report.proofs.Case.table_lines.Given as goal
 
 abbrev pub invariant-loop-t : goal.invariant-loop-t
-invariant-loop-t l = Stage l.self.shape.now l.self.tables l.self.cells.now l.at l.initial.out l.t l.place l.rest l.out
+invariant-loop-t l = Stage l.self.relations.now l.self.tables l.self.cells.now l.at l.initial.out l.t l.place l.rest l.out

@@ -1,17 +1,16 @@
 -- `cases::validity::Key::has_parent` meets its contract. Assumes nothing.
-use mathlib.Core.Path.{sym, ◌∙◌}
+use mathlib.Core.Path.{refl, ◌∙◌}
 use native.Mathlib.Omega.{arith}
-use Rattle.cases.proofs.RowTests.{any-below-none, any-below-next, any-below-whole, any-below-found}
+use borrow.Author.Rules.{rules}
+use Rattle.std.proofs.lemmas.Iterator.{YieldsList-from_range}
+use Rattle.std.proofs.lemmas.Iterator.Search.{any_from_yields_List}
+use Rattle.cases.specs.Validity.{agrees_in}
+use Rattle.cases.proofs.RowTests.{any-in-range}
 use Rattle.cases.proofs.validity.Key.has_parent.Goals as goal
 
-pub loop-j-init : goal.loop-j-init
-loop-j-init c = any-below-none _
-
-pub returns-then-agrees : goal.returns-then-agrees
-returns-then-agrees c = sym (any-below-found _ _ _ c.loop-j-test.true (sym c.agrees.ensures ∙ c.if-agrees.true))
-
-pub loop-j-preserved : goal.loop-j-preserved
-loop-j-preserved c = any-below-next _ _ c.loop-j.invariant (sym c.agrees.ensures ∙ c.if-agrees.false)
-
 pub returns : goal.returns
-returns c = sym (any-below-whole _ _ _ (omega arith) c.loop-j.invariant)
+returns c =
+    let a = c.args in
+    let agrees = agrees_in a.self.now.frame.now a.self.now.parts a.work.now a.i in
+    any_from_yields_List agrees _ _ c.any.result c.any.ensures.ran
+    (YieldsList-from_range 0 a.rows a.rows refl (omega arith)) (λ x b q k. search rules) ∙ any-in-range agrees a.rows

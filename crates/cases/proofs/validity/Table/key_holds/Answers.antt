@@ -1,22 +1,23 @@
 -- `cases::validity::Table::key_holds` meets its contract. Assumes nothing.
-use mathlib.Core.Path.{sym, ◌∙◌}
+use mathlib.Core.Path.{refl, sym, ◌∙◌}
+use Prim.Native.Nat.{ℕ}
 use native.Mathlib.Omega.{arith}
-use Rattle.cases.proofs.RowTests.{all-below-none, all-below-next, all-below-whole, all-below-stops}
+use borrow.Author.Tests.{eq-eqb}
+use borrow.Author.Rules.{rules}
+use Rattle.std.proofs.lemmas.Iterator.{YieldsList-from_range}
+use Rattle.std.proofs.lemmas.Iterator.Search.{all_from_yields_List}
+use Rattle.cases.specs.Validity.{differs_from_earlier_in}
+use Rattle.cases.proofs.RowTests.{all-in-range}
 use Rattle.cases.proofs.KeyLaws.{unkeyed-is, keyed-is}
 use Rattle.cases.proofs.validity.Table.key_holds.Goals as goal
 
 pub returns-then-self-eq0 : goal.returns-then-self-eq0
-returns-then-self-eq0 c = unkeyed-is _ _ _ _ _ c.if-self-eq0.true
+returns-then-self-eq0 c = rw (eq-eqb _ 0 c.if-self-eq0.true) (unkeyed-is _ _ _ _ _ c.if-self-eq0.true)
 
-pub loop-j-init : goal.loop-j-init
-loop-j-init c = all-below-none _
-
-pub returns-then-not-differs_from_earlier : goal.returns-then-not-differs_from_earlier
-returns-then-not-differs_from_earlier c = keyed-is _ _ _ _ _ c.if-self-eq0.false
-    (all-below-stops _ _ _ c.loop-j-test.true (sym c.differs_from_earlier.ensures ∙ c.if-not-differs_from_earlier.true))
-
-pub loop-j-preserved : goal.loop-j-preserved
-loop-j-preserved c = all-below-next _ _ c.loop-j.invariant (sym c.differs_from_earlier.ensures ∙ c.if-not-differs_from_earlier.false)
-
-pub returns : goal.returns
-returns c = keyed-is _ _ _ _ _ c.if-self-eq0.false (all-below-whole _ _ _ (omega arith) c.loop-j.invariant)
+pub returns-else-self-eq0 : goal.returns-else-self-eq0
+returns-else-self-eq0 c =
+    let a = c.args in
+    let s = a.self.now in
+    let differs = λ (j : ℕ). differs_from_earlier_in a.work.now s.number j s.width s.mask in
+    keyed-is _ _ _ _ _ c.if-self-eq0.false (sym (all_from_yields_List differs _ _ c.all.result c.all.ensures.ran
+    (YieldsList-from_range 0 s.rows s.rows refl (omega arith)) (λ x b q k. search rules) ∙ all-in-range differs s.rows))

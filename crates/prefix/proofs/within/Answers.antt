@@ -1,9 +1,0 @@
--- `prefix::within` meets its contract. Assumes nothing.
-use borrow.Author.Tests.{le-leb, lt-leb}
-use Rattle.prefix.proofs.within.Goals as goal
-
-pub returns-then-lo-x : goal.returns-then-lo-x
-returns-then-lo-x c = rw (le-leb _ _ c.if-lo-x.true)
-
-pub returns-else-lo-x : goal.returns-else-lo-x
-returns-else-lo-x c = rw (lt-leb _ _ c.if-lo-x.false)
