@@ -51,19 +51,12 @@ pub struct Parts {
     pub body: usize,
 }
 
-// A place, or the end of the bytes.
-fn inside(bytes: &[u8], at: usize) -> usize
-    ensures { result ≡ min at (length bytes.now) }
-{
-    if at < bytes.len() { at } else { bytes.len() }
-}
-
 // At most n bytes from a place on.
 fn part(bytes: &[u8], at: usize, n: u8) -> &[u8]
     ensures { result.now ≡ take n (drop at bytes.now) }
 {
-    let from = inside(bytes, at);
-    let to = inside(bytes, from + (n as usize));
+    let from = at.min(bytes.len());
+    let to = (from + (n as usize)).min(bytes.len());
     &bytes[from..to]
 }
 
@@ -84,7 +77,7 @@ pub fn frame_at(bytes: &[u8], at: usize) -> &[u8]
     ensures { result.now ≡ frame_at bytes.now at }
 {
     let size = item_at(bytes, at, 0);
-    let before = inside(bytes, at);
+    let before = at.min(bytes.len());
     part(bytes, before + 1, size)
 }
 

@@ -14,13 +14,6 @@ pub struct Items {
     pub number: u8,
 }
 
-// A number, at most 6.
-fn at_most_six(n: usize) -> u8
-    ensures { result ≡ min n 6 }
-{
-    if n < 6 { n as u8 } else { 6 }
-}
-
 // The first six names, 0 past the last.
 fn six_of(names: &[u8]) -> [u8; 6]
     ensures { result ≡ bytes_at names.now 0 6 }
@@ -47,7 +40,7 @@ pub fn from_items(frame: &[u8]) -> Items
     let list = frames::from_list(frame);
     Items {
         relations: six_of(list),
-        number: at_most_six(list.len()),
+        number: list.len().min(6) as u8,
     }
 }
 

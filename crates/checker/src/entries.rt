@@ -134,7 +134,7 @@ fn capped(n: u64, m: u32) -> u64
     ensures { result ≡ min (n * m) too_many }
 {
     let p = n * (m as u64);
-    if p <= TOO_MANY { p } else { TOO_MANY }
+    p.min(TOO_MANY)
 }
 
 // n times the sizes of the columns of a table.

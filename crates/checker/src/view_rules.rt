@@ -106,14 +106,6 @@ fn tail(scope: &Scope, head: Tested, count: u8) -> Result<Relation, Reason>
     })
 }
 
-// The rule of a basic view's select, and of the where of any view.
-fn plain(bound: u32, filter: bool) -> Rule
-    ensures { result ≡ plain_rule bound filter }
-{
-    let part = if filter { Part::Where } else { Part::Plain };
-    Rule { bound, part }
-}
-
 // The where of any view.
 fn filtered(frame: &[u8], at: usize, items: Items, relations: &[Relation], bound: u32) -> Tested
     ensures { TestsC frame.now at (relations_in items) relations.now (plain_rule bound true) result }
@@ -122,7 +114,10 @@ fn filtered(frame: &[u8], at: usize, items: Items, relations: &[Relation], bound
         frame,
         items,
         relations,
-        rule: plain(bound, true),
+        rule: Rule {
+            bound,
+            part: Part::Where,
+        },
     };
     scope.condition(at)
 }
@@ -169,7 +164,10 @@ fn basic_rules(frame: &[u8], o: Opening, relations: &[Relation]) -> Result<Relat
         frame,
         items: o.items,
         relations,
-        rule: plain(o.bound, false),
+        rule: Rule {
+            bound: o.bound,
+            part: Part::Plain,
+        },
     };
     tail(&scope, o.filter, o.parts.width)
 }

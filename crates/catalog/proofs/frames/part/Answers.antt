@@ -3,5 +3,5 @@ use Rattle.catalog.proofs.FrameLaws.{part-is}
 use Rattle.catalog.proofs.frames.part.Goals as goal
 
 pub returns : goal.returns
-returns c = part-is c.args.bytes.now c.args.at c.args.n c.inside-from.result c.inside-to.result
-    c.inside-from.ensures c.inside-to.ensures
+returns c = part-is c.args.bytes.now c.args.at c.args.n c.min-from.result c.min-to.result
+    c.min-from.ensures c.min-to.ensures

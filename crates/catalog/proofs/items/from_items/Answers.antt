@@ -5,4 +5,4 @@ use Rattle.catalog.proofs.items.from_items.Goals as goal
 
 pub returns : goal.returns
 unfolding items_of
-returns c = rw (c.six_of.ensures, c.at_most_six.ensures) (ap items_of c.from_list-list.ensures)
+returns c = rw (c.six_of.ensures, c.min.ensures) (ap items_of c.from_list-list.ensures)
