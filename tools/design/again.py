@@ -4,20 +4,11 @@
 `tools/design/again.py [COMMIT] [--list]` reads the functions, types and loops of a commit, or of the checkout where none is named.
 """
 import collections
-import pathlib
 import re
-import subprocess
 import sys
 
-root = pathlib.Path(__file__).resolve().parent.parent.parent
-
-
-def sources(commit):
-    if commit is None:
-        return {str(p.relative_to(root)): p.read_text() for p in sorted(root.glob("crates/*/src/**/*.rt"))}
-    names = subprocess.run(["git", "ls-tree", "-r", "--name-only", commit, "crates"], cwd=root, capture_output=True, text=True, check=True).stdout.split()
-    return {n: subprocess.run(["git", "show", f"{commit}:{n}"], cwd=root, capture_output=True, text=True, check=True).stdout
-            for n in names if re.fullmatch(r"crates/\w+/src/.*\.rt", n)}
+sys.dont_write_bytecode = True
+from code_of import sources  # noqa: E402
 
 
 def plain(text):

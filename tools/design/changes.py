@@ -6,23 +6,17 @@ impls of traits; of proofs/ the theorems that README or docs/ named at the commi
 now; what it says nothing of goes to standard error. docs/DESIGN-PASS.md ends with this list.
 """
 import collections
-import pathlib
 import re
-import subprocess
 import sys
 
-root = pathlib.Path(__file__).resolve().parent.parent.parent
+sys.dont_write_bytecode = True
+from code_of import root, texts  # noqa: E402
+
 NAME = re.compile(r"^(?:(?:abbrev|unfoldable)\s+)?pub\s+(?:record\s+|data\s+)?([^\s:({]+)")
 
 
 def files(commit, suffix):
-    pattern = re.compile(rf"crates/(\w+)/({'src' if suffix == 'rt' else 'specs'})/(.+)\.{suffix}")
-    if commit is None:
-        every = {str(p.relative_to(root)): p for p in sorted(root.glob(f"crates/*/{'src' if suffix == 'rt' else 'specs'}/**/*.{suffix}"))}
-        return {n: p.read_text() for n, p in every.items() if pattern.fullmatch(n)}
-    names = subprocess.run(["git", "ls-tree", "-r", "--name-only", commit, "crates"], cwd=root, capture_output=True, text=True, check=True).stdout.split()
-    return {n: subprocess.run(["git", "show", f"{commit}:{n}"], cwd=root, capture_output=True, text=True, check=True).stdout
-            for n in names if pattern.fullmatch(n)}
+    return texts(commit, rf"crates/\w+/{'src' if suffix == 'rt' else 'specs'}/.+\.{suffix}")
 
 
 def plain(path, text):
@@ -129,19 +123,9 @@ def definitions(commit):
     return out
 
 
-def shown(commit, pattern):
-    """The files at a commit, or of the checkout, whose names match."""
-    if commit is None:
-        every = {str(p.relative_to(root)): p for p in sorted(root.glob("**/*")) if ".git" not in p.parts and p.is_file()}
-        return {n: p.read_text() for n, p in every.items() if re.fullmatch(pattern, n)}
-    names = subprocess.run(["git", "ls-tree", "-r", "--name-only", commit], cwd=root, capture_output=True, text=True, check=True).stdout.split("\n")
-    return {n: subprocess.run(["git", "show", f"{commit}:{n}"], cwd=root, capture_output=True, text=True, check=True).stdout
-            for n in names if re.fullmatch(pattern, n)}
-
-
 def theorems(commit):
     """The names in backticks that README and docs/ have at the commit: `File.name` as a pair, and a name alone with no file."""
-    text = "\n".join(t for n, t in shown(commit, r"README\.md|docs/(?!PORT-NAMES)[\w/-]+\.md").items())
+    text = "\n".join(t for n, t in texts(commit, r"README\.md|docs/(?!PORT-NAMES)[\w/-]+\.md").items())
     pairs = {(m[1], m[2]) for m in re.finditer(r"`(\w+)\.([A-Za-z][\w'-]*)`", text)}
     return pairs | {(None, m[1]) for m in re.finditer(r"`([A-Za-z][\w'-]*)`", text)}
 
@@ -149,7 +133,7 @@ def theorems(commit):
 def statements(commit, names):
     """crate, file and name of each theorem of proofs/ that is among the names, with its statement; of what is no theorem but a definition the whole."""
     out = {}
-    for path, text in shown(commit, r"crates/\w+/proofs/\w+\.antt").items():
+    for path, text in texts(commit, r"crates/\w+/proofs/\w+\.antt").items():
         _, crate, _, rest = path.split("/", 3)
         file = rest.removesuffix(".antt")
         lines = text.split("\n")

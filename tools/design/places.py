@@ -3,12 +3,11 @@
 
 `tools/design/places.py [COMMIT] [--list]` prints the number of places of each pattern, and with --list each place. docs/DESIGN-PASS.md has the counts.
 """
-import pathlib
 import re
-import subprocess
 import sys
 
-root = pathlib.Path(__file__).resolve().parent.parent.parent
+sys.dont_write_bytecode = True
+from code_of import sources  # noqa: E402
 
 # by point of docs/DESIGN-PASS.md: a name, and what one line of code has where the form stands
 PATTERNS = [
@@ -24,14 +23,6 @@ PATTERNS = [
     ("6 bytes in which fields are packed", r"ENTRY \*|code / 32|code / 4|code % 4|\* 32 \+|const (BYTES|FORMS): \[u8"),
     ("7 tables of steps, and switches by a flag", r"\b(union|grouped|asked|negate|condition|named): bool"),
 ]
-
-
-def sources(commit):
-    if commit is None:
-        return {str(p.relative_to(root)): p.read_text() for p in sorted(root.glob("crates/*/src/*.rt"))}
-    names = subprocess.run(["git", "ls-tree", "-r", "--name-only", commit, "crates"], cwd=root, capture_output=True, text=True, check=True).stdout.split()
-    return {n: subprocess.run(["git", "show", f"{commit}:{n}"], cwd=root, capture_output=True, text=True, check=True).stdout
-            for n in names if re.fullmatch(r"crates/\w+/src/\w+\.rt", n)}
 
 
 def main():
