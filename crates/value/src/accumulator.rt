@@ -7,11 +7,11 @@ use super::datum::Datum;
 use super::integer;
 use super::operator::Aggregate;
 
-// What the values so far come to, if there are any.
+// What the values so far come to, if there are any. A caller sees none apart from a total of 0, and may begin from a total.
 #[derive(Clone, Copy)]
 pub struct Accumulator {
-    kind: Aggregate,
-    total: Option<i32>,
+    pub kind: Aggregate,
+    pub total: Option<i32>,
 }
 
 impl Accumulator {
@@ -29,17 +29,25 @@ impl Accumulator {
 
     // One value more; what no longer fits 32 bits becomes 0.
     // Refused: the first value lost; the total twice.
+    #[tactic(auto, unfolding(crate::specs::Machine::kind_of))]
     pub fn more(self, value: Datum) -> Accumulator
         ensures { (tally_of result ≡ narrowed_tally (more_t (kind_of self) (value_of value) (tally_of self))) × (kind_of result ≡ kind_of self) }
     {
-        let kind = self.kind;
+        self.more_by(self.kind, value)
+    }
+
+    // The same by a kind that need not be its own, which stays.
+    // Refused: the first value lost; the total twice.
+    pub fn more_by(self, kind: Aggregate, value: Datum) -> Accumulator
+        ensures { (tally_of result ≡ narrowed_tally (more_t (aggregate_of kind) (value_of value) (tally_of self))) × (kind_of result ≡ kind_of self) }
+    {
         let n = value.weight(kind);
         let total = match self.total {
             None => n,
             Some(t) => integer::combined(kind, t, n),
         };
         Accumulator {
-            kind,
+            kind: self.kind,
             total: Some(total),
         }
     }

@@ -1,14 +1,14 @@
 // A value by value. Only this crate reads its field.
 ghost use Rattle.std.specs.Prelude.{◌≡◌};
 ghost use Rattle.value.specs.Integer.{bytes_z};
-ghost use Rattle.value.specs.Value.{Value, apply as apply_v, round, compare as compare_v, narrowed, weight as weight_v, stored as stored_v, shown as shown_v};
+ghost use Rattle.value.specs.Value.{Value, apply as apply_v, round, compare as compare_v, value_test, narrowed, weight as weight_v, stored as stored_v, shown as shown_v};
 ghost use Rattle.value.specs.Machine.{value_of, truth_of, operation_of, comparison_of, aggregate_of};
 
 use super::boolean::Boolean;
 use super::integer;
 use super::operator::{Aggregate, Comparison, Operation};
 
-// Equal are the same cells, which grouping, set views and keys go by.
+// Equal are the same cells, which grouping, set views and keys go by; `same` says so of the values.
 #[derive(Clone, Copy, PartialEq, Eq)]
 pub struct Datum {
     n: i32,
@@ -87,6 +87,15 @@ impl Datum {
         ensures { truth_of result ≡ compare_v (comparison_of comparison) (value_of self) (value_of other) }
     {
         Boolean::from(integer::compare(comparison, self.n, other.n))
+    }
+
+    // The same cell, as `==` says it.
+    // Refused: self with self; other with other.
+    #[tactic(auto, unfolding(crate::specs::Machine::value_of, crate::specs::Value::same_value))]
+    pub fn same(self, other: Datum) -> bool
+        ensures { result ≡ value_test.same (value_of self) (value_of other) }
+    {
+        self == other
     }
 
     // What the value counts for in an aggregate of that kind.

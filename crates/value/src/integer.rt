@@ -1,5 +1,6 @@
 // Signed numbers: each function has a contract over the whole numbers for every input.
-ghost use Rattle.std.specs.Prelude.{◌≡◌, ◌≤◌, ◌^◌, pos, ◌+ℤ◌, ◌*ℤ◌, [], ◌∷◌};
+ghost use Rattle.std.specs.Prelude.{◌≡◌, ◌&&◌, ◌≤◌, ◌^◌, pos, ◌+ℤ◌, ◌*ℤ◌, [], ◌∷◌};
+ghost use Rattle.std.specs.Int.Signed.{le_z};
 ghost use Rattle.value.specs.Integer.{narrow32, narrow16 as narrow16_z, nearest, round_z, bytes_z, high_byte, low_byte};
 ghost use Rattle.value.specs.Value.{apply_z, compare_z, combine};
 ghost use Rattle.value.specs.Machine.{operation_of, comparison_of, aggregate_of};
@@ -12,6 +13,14 @@ pub fn times(n: u32, x: i32) -> i64
     ensures { result ≡ pos n *ℤ x }
 {
     i64::from(n) * i64::from(x)
+}
+
+// Whether x lies from lo to hi.
+// Refused: hi for lo; lo for hi.
+pub fn between(x: i64, lo: i32, hi: i32) -> bool
+    ensures { result ≡ le_z lo x && le_z x hi }
+{
+    i64::from(lo) <= x && x <= i64::from(hi)
 }
 
 // x itself if 32 bits hold it, else 0.

@@ -1,4 +1,4 @@
--- `value::accumulator::Accumulator::more` meets its contract. Assumes nothing.
+-- `value::accumulator::Accumulator::more_by` meets its contract. Assumes nothing.
 use mathlib.Core.Path.{refl, ap, sym, ◌∙◌}
 use mathlib.Core.Option.{some}
 use mir.Syntax.{w32}
@@ -9,7 +9,7 @@ use Rattle.value.specs.Integer.{narrow32}
 use Rattle.value.specs.Value.{more, narrowed_tally}
 use Rattle.value.specs.Machine.{tally_of, kind_of}
 use Rattle.value.proofs.Fits.{back, fits-narrow32}
-use Rattle.value.proofs.accumulator.Accumulator.more.Goals as goal
+use Rattle.value.proofs.accumulator.Accumulator.more_by.Goals as goal
 
 pub returns-in-None : goal.returns-in-None
 unfolding tally_of kind_of more narrowed_tally
