@@ -3,7 +3,7 @@
 
 ghost use Rattle.std.specs.Prelude.{◌≡◌};
 ghost use Rattle.value.specs.Integer.{min_z, max_z};
-ghost use Rattle.value.specs.Value.{apply_z};
+ghost use Rattle.value.specs.Value.{Operation as operation_t, apply_z};
 ghost use Rattle.value.specs.Machine.{operation_of, aggregate_of};
 ghost use Rattle.range.specs.Ranges.{constant_of, range_from, hull_of, operated_of, rounded_of, scaled_of, count_of, aggregated_of, fitted, ranged_told};
 
@@ -29,6 +29,11 @@ fn results(operation: Operation, x: i32, b: Range) -> (i64, i64)
 
 // A range of 64 bits that 32 bits do not hold is `None`.
 impl Range {
+    // The ends of 32 bits.
+    pub const LOW: i32 = i32::MIN;
+
+    pub const HIGH: i32 = i32::MAX;
+
     // Refused: 0; up to 0.
     pub fn constant(x: i16) -> Range
         ensures { result ≡ constant_of x }
@@ -77,6 +82,27 @@ impl Range {
         let p = results(operation, self.lo, other);
         let q = results(operation, self.hi, other);
         Range::checked(p.0.min(q.0), p.1.max(q.1))
+    }
+
+    // Refused: the product; of self and self.
+    pub fn sum(self, other: Range) -> Option<Range>
+        ensures { ranged_told result ≡ fitted (operated_of operation_t.sum self other) }
+    {
+        self.operated(Operation::Sum, other)
+    }
+
+    // Refused: the sum; of self and self.
+    pub fn difference(self, other: Range) -> Option<Range>
+        ensures { ranged_told result ≡ fitted (operated_of operation_t.difference self other) }
+    {
+        self.operated(Operation::Difference, other)
+    }
+
+    // Refused: the difference; of self and self.
+    pub fn product(self, other: Range) -> Option<Range>
+        ensures { ranged_told result ≡ fitted (operated_of operation_t.product self other) }
+    {
+        self.operated(Operation::Product, other)
     }
 
     // Both ends rounded to multiples of m.
