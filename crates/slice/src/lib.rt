@@ -4,7 +4,7 @@
 ghost use Rattle.std.specs.Prelude.{◌≡◌, pos, get_or, set};
 
 // The item at a place; `default` past the end.
-// Refused: the default always; the first item.
+// Refused: the first item past the end; the first item always.
 pub fn item_at<T: Copy>(items: &[T], at: usize, default: T) -> T
     ensures { result ≡ get_or items.now at default }
 {
