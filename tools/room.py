@@ -63,9 +63,9 @@ def functions(crate):
             if line == "#[cfg(test)]":
                 break
             elif kind := re.match(r"impl(?:<[^>]*>)? (?:(\w+)(?:<(\w+)>)? for )?(\w+)", line):
-                # (an impl of a trait is named after the type, the trait and its parameter)
+                # (an impl of a trait is named after the type, the trait and its parameter, each with a capital)
                 trait, of, name = (part or "" for part in kind.groups())
-                owner = [name + trait + of[:1].upper() + of[1:]]
+                owner = ["".join(part[:1].upper() + part[1:] for part in (name, trait, of))]
             elif line == "}":
                 owner = []
             elif named := re.match(r"\s*#\[cycle\((\w+)\)\]", line):

@@ -43,6 +43,15 @@ impl Reason {
     }
 }
 
+// Refused: 3 for each; one more.
+impl From<Reason> for u8 {
+    ghost from_gives = { λ reason n. n ≡ number_of reason };
+
+    fn from(reason: Reason) -> u8 {
+        reason.number()
+    }
+}
+
 // Line 0 stands where no line is said.
 #[derive(Clone, Copy, PartialEq, Eq)]
 pub struct Refusal {
