@@ -12,11 +12,18 @@ use lib.Dec.{ltb, leb}
 use lib.ListN.{length, get_or, drop, drop_of_length-le}
 use Rattle.value.proofs.Decides.{by-test}
 use Rattle.value.proofs.Places.{from_byte}
+use Rattle.text.specs.Refusals.{number_of}
+use Rattle.text.specs.declared.refusal.Reason.{Reason}
+use Rattle.text.specs.declared.refusal.Reason.TheVariants.{Form}
 use Rattle.meaning.specs.Syntax.{Expr}
 use Rattle.language.specs.Reading.{Read, Reader, done, refuse, ◌>>=◌, either, byte_if, two_bytes, step, place}
 use Rattle.prefix.specs.Skipped.{FormEnd, skipped}
 use Rattle.prefix.proofs.Ends.{field-if, field-two}
 use Rattle.prefix.proofs.Skips.{level-done, level-at, next-is, begins, then-stop}
+
+-- a frame that is too short, where reasons have their own numbers
+pub form-is-4 : (r : Reason) → r ≡ Form → number_of r ≡ 4
+form-is-4 r e = ap number_of e
 
 -- ---- one byte
 

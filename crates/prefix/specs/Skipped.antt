@@ -13,10 +13,14 @@ pub data FormEnd : Type 0 where
   next : ℕ → FormEnd
   refused : ℕ → FormEnd
 
--- what each answer of the code says
+-- what each answer of the code says, where its refusals are numbered so
+abbrev pub skip_by : {E : Type 0} → (E → ℕ) → Result ℕ E → FormEnd
+skip_by number (Ok n) = FormEnd.next n
+skip_by number (Err e) = FormEnd.refused (number e)
+
+-- a reason by its own number
 abbrev pub skip_told : Result ℕ Reason → FormEnd
-skip_told (Ok n) = FormEnd.next n
-skip_told (Err r) = FormEnd.refused (number_of r)
+skip_told r = skip_by number_of r
 
 -- what was read aside
 abbrev pub skip_of : {A : Type 0} → List ℕ → Read A → FormEnd

@@ -1,11 +1,11 @@
 // Where each field of a frame ends, and each expression and condition in prefix form; or the reason of its refusal.
 #![tactic(auto)]
 
-ghost use Rattle.std.specs.Prelude.{◌≡◌, ◌&&◌, ◌+◌, ◌*◌, ◌≤◌, ltb, leb, length, get_or};
+ghost use Rattle.std.specs.Prelude.{ℕ, ◌≡◌, ◌&&◌, ◌+◌, ◌*◌, ◌≤◌, ltb, leb, length, get_or};
 ghost use Rattle.language.specs.Reading.{byte_if, two_bytes, step as step_r, place as place_r, existing, read_e, read_c};
 ghost use Rattle.catalog.specs.Items.{relations_in, widths_in};
-ghost use Rattle.text.specs.Refusals.{number_of};
-ghost use Rattle.prefix.specs.Skipped.{skip_told, skipped, twice, open_of, opened_setting, behind_e, behind_c};
+ghost use Rattle.text.specs.declared.refusal.Reason.TheVariants.{Form};
+ghost use Rattle.prefix.specs.Skipped.{skip_by, skip_told, skipped, twice, open_of, opened_setting, behind_e, behind_c};
 
 use catalog::frames;
 use catalog::items::Items;
@@ -41,29 +41,33 @@ pub struct Reader<'a> {
     pub setting: Setting,
 }
 
-// One byte, whose test the caller has made.
+// One byte, whose test the caller has made. A refusal is a number or a reason: the contract holds of each way to number it in which a frame
+// that is too short has 4.
 // Refused: the byte is left; 4 for the reason.
-fn tested(frame: &[u8], at: usize, reason: Reason, passes: bool) -> Result<usize, Reason>
-    ensures { skip_told result ≡ skipped frame.now at (byte_if (number_of reason) (λ _. passes)) }
+fn tested<E: Copy + From<Reason>>(frame: &[u8], at: usize, reason: E, passes: bool) -> Result<usize, E>
+    ensures { (number : E → ℕ) → ((e : E) → E.from_gives Form e → number e ≡ 4)
+        → skip_by number result ≡ skipped frame.now at (byte_if (number reason) (λ _. passes)) }
 {
     if frame.len() <= at {
-        return Err(Reason::Form);
+        return Err(E::from(Reason::Form));
     }
     if passes { Ok(at + 1) } else { Err(reason) }
 }
 
 // One byte below n.
 // Refused: n passes; what n numbers for the reason.
-pub fn below(frame: &[u8], at: usize, reason: Reason, n: u8) -> Result<usize, Reason>
-    ensures { skip_told result ≡ skipped frame.now at (byte_if (number_of reason) (λ b. ltb b n)) }
+pub fn below<E: Copy + From<Reason>>(frame: &[u8], at: usize, reason: E, n: u8) -> Result<usize, E>
+    ensures { (number : E → ℕ) → ((e : E) → E.from_gives Form e → number e ≡ 4)
+        → skip_by number result ≡ skipped frame.now at (byte_if (number reason) (λ b. ltb b n)) }
 {
     tested(frame, at, reason, item_at(frame, at, 0) < n)
 }
 
 // One byte from lo to hi.
 // Refused: lo for hi; hi for lo.
-pub fn between(frame: &[u8], at: usize, reason: Reason, lo: u8, hi: u8) -> Result<usize, Reason>
-    ensures { skip_told result ≡ skipped frame.now at (byte_if (number_of reason) (λ b. leb lo b && leb b hi)) }
+pub fn between<E: Copy + From<Reason>>(frame: &[u8], at: usize, reason: E, lo: u8, hi: u8) -> Result<usize, E>
+    ensures { (number : E → ℕ) → ((e : E) → E.from_gives Form e → number e ≡ 4)
+        → skip_by number result ≡ skipped frame.now at (byte_if (number reason) (λ b. leb lo b && leb b hi)) }
 {
     let b = item_at(frame, at, 0);
     tested(frame, at, reason, (lo..=hi).contains(&b))

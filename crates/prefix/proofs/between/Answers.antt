@@ -1,5 +1,4 @@
 -- `prefix::between` meets its contract. Assumes nothing.
-use Rattle.text.specs.Refusals.{number_of}
 use mathlib.Core.Path.{◌≡◌, ◌∙◌}
 use mathlib.Core.Bool.{◌&&◌}
 use lib.Dec.{leb}
@@ -8,6 +7,6 @@ use Rattle.prefix.proofs.Fields.{if-tested}
 use Rattle.prefix.proofs.between.Goals as goal
 
 pub returns : goal.returns
-returns c = let a = c.args in
+returns g c = let a = c.args in λ number four.
     let inside : c.contains.result ≡ leb a.lo c.item_at-b.result && leb c.item_at-b.result a.hi = search rules in
-    if-tested _ _ (number_of a.reason) (λ b. leb a.lo b && leb b a.hi) (inside ∙ rw c.item_at-b.ensures) c.tested.ensures
+    if-tested _ _ (number a.reason) (λ b. leb a.lo b && leb b a.hi) (inside ∙ rw c.item_at-b.ensures) (c.tested.ensures number four)

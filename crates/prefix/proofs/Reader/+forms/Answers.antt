@@ -6,7 +6,9 @@ use lib.Dec.{leb}
 use Prim.Native.Nat.{ℕ}
 use native.Mathlib.Omega.{arith}
 use Rattle.text.proofs.Exits.{exit_is}
+use Rattle.text.specs.Refusals.{number_of}
 use Rattle.prefix.specs.Skipped.{skip_told, twice}
+use Rattle.prefix.proofs.Fields.{form-is-4}
 use Rattle.language.specs.Reading.{byte_if, step, read_e, read_c}
 use Rattle.prefix.proofs.Ends.{field-if, field_step, field_e, field_c}
 use Rattle.prefix.proofs.Skips.{level-refl, past_end, then-further, then_next, then-stop}
@@ -43,20 +45,20 @@ behind_exists-returns-then-setting-ge6 t c = let s = c.args.self.now in sym (ref
 pub behind_exists-condition-requires : goal.behind_exists-condition-requires
 behind_exists-condition-requires t c =
     let s = c.args.self.now in
-    let h = looked-further s.frame.now c.args.at s.relations.now s.setting c.if-setting-ge6.false c.below.ensures (ap skip_told c.in_ok-next.was) in
+    let h = looked-further s.frame.now c.args.at s.relations.now s.setting c.if-setting-ge6.false (c.below.ensures number_of form-is-4) (ap skip_told c.in_ok-next.was) in
     (omega arith, tt)
 
 pub behind_exists-returns : goal.behind_exists-returns
 behind_exists-returns t c =
     let s = c.args.self.now in
     rw c.opened.ensures at c.condition.ensures
-    ∙ sym (looked-next _ _ s.relations.now s.setting c.if-setting-ge6.false c.below.ensures (ap skip_told c.in_ok-next.was) c.item_at.ensures)
+    ∙ sym (looked-next _ _ s.relations.now s.setting c.if-setting-ge6.false (c.below.ensures number_of form-is-4) (ap skip_told c.in_ok-next.was) c.item_at.ensures)
 
 pub behind_exists-returns-in_err-next : goal.behind_exists-returns-in_err-next
 behind_exists-returns-in_err-next t c =
     let s = c.args.self.now in
     ap skip_told (exit_is _ c.from_residual.ensures.1)
-    ∙ sym (looked-stop _ _ s.relations.now s.setting c.if-setting-ge6.false c.below.ensures (ap skip_told c.in_err-next.was))
+    ∙ sym (looked-stop _ _ s.relations.now s.setting c.if-setting-ge6.false (c.below.ensures number_of form-is-4) (ap skip_told c.in_err-next.was))
 
 pub behind_expression-expression-requires : goal.behind_expression-expression-requires
 behind_expression-expression-requires t c = let h = then-further _ field_step _ c.step.ensures (ap skip_told c.in_ok-next-in-5.was) in (omega arith, tt)
@@ -65,7 +67,7 @@ pub behind_expression-two_expressions-requires : goal.behind_expression-two_expr
 behind_expression-two_expressions-requires t c = let h = then-further _ (field_c _) _ c.condition.ensures (ap skip_told c.in_ok-next-in-6.was) in (omega arith, tt)
 
 pub behind_expression-expression-requires-in-7 : goal.behind_expression-expression-requires-in-7
-behind_expression-expression-requires-in-7 t c = let h = then-further _ (field-if 5 kinds) _ c.between.ensures (ap skip_told c.in_ok-next-in-7.was) in (omega arith, tt)
+behind_expression-expression-requires-in-7 t c = let h = then-further _ (field-if 5 kinds) _ (c.between.ensures number_of form-is-4) (ap skip_told c.in_ok-next-in-7.was) in (omega arith, tt)
 
 pub behind_expression-returns-in-0 : goal.behind_expression-returns-in-0
 behind_expression-returns-in-0 t c = c.two_bytes.ensures ∙ sym (on-constant _ _ _ _ c.in-0.is)
@@ -94,12 +96,12 @@ behind_expression-returns-in_err-next-in-6 t c =
 pub behind_expression-returns-in_ok-next-in-7 : goal.behind_expression-returns-in_ok-next-in-7
 behind_expression-returns-in_ok-next-in-7 t c =
     c.expression-in-7.ensures
-    ∙ sym (on-aggregate _ _ _ _ c.in-7.is ∙ then_next _ (field-if 5 kinds) _ c.between.ensures (ap skip_told c.in_ok-next-in-7.was) (λ _. level-refl))
+    ∙ sym (on-aggregate _ _ _ _ c.in-7.is ∙ then_next _ (field-if 5 kinds) _ (c.between.ensures number_of form-is-4) (ap skip_told c.in_ok-next-in-7.was) (λ _. level-refl))
 
 pub behind_expression-returns-in_err-next-in-7 : goal.behind_expression-returns-in_err-next-in-7
 behind_expression-returns-in_err-next-in-7 t c =
     ap skip_told (exit_is _ c.from_residual-in_err-next-in-7.ensures.1)
-    ∙ sym (on-aggregate _ _ _ _ c.in-7.is ∙ then-stop _ (byte_if 5 kinds) _ _ _ c.between.ensures (ap skip_told c.in_err-next-in-7.was))
+    ∙ sym (on-aggregate _ _ _ _ c.in-7.is ∙ then-stop _ (byte_if 5 kinds) _ _ _ (c.between.ensures number_of form-is-4) (ap skip_told c.in_err-next-in-7.was))
 
 pub behind_expression-returns-in-2-to-4 : goal.behind_expression-returns-in-2-to-4
 behind_expression-returns-in-2-to-4 t c = c.two_expressions-in-2-to-4.ensures ∙ sym (on-operation _ _ _ _ (λ e. omega arith) (λ e. omega arith) (omega arith))
