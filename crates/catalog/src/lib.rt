@@ -1,4 +1,4 @@
-// A checked file in memory: how it lies in arrays, and what is read of it.
+// A checked file in memory: its packed frames, what is known of each relation, and what is read of them.
 #![tactic(auto)]
 
 pub mod frames;

@@ -86,7 +86,7 @@ pub fn mask_of(relations: &[Relation], r: u8) -> u8
 }
 
 // The place of its frame, the frame's length first.
-// Refused: that of the first relation; the key mask.
+// Refused: that of the first relation; the key mask; its low byte alone; the key mask as its high byte.
 pub(crate) fn start_of(relations: &[Relation], r: u8) -> usize
     ensures { result ≡ start_at relations.now r }
 {
@@ -99,7 +99,7 @@ pub(crate) fn start_of(relations: &[Relation], r: u8) -> usize
 }
 
 // The range of a column; 0 to 0 at or past the number of columns.
-// Refused: 0 to 1 past the relations; that of the first relation.
+// Refused: 0 to 1 past the relations; that of the first relation; lo for hi.
 pub fn range_at(relations: &[Relation], r: u8, c: u8) -> Range
     ensures { result ≡ range_at relations.now r c }
 {
@@ -124,7 +124,7 @@ pub fn domain_of(relations: &[Relation], r: u8, c: u8) -> Domain
 }
 
 // The frame of a relation stands at another place.
-// Refused: at place 0; the first relation's.
+// Refused: at place 0; the first relation's; the low byte twice; the low byte as key mask.
 pub fn put_start(relations: &mut [Relation], r: u8, start: usize)
     ensures { relations.new ≡ put_start relations.old r start }
 {

@@ -38,9 +38,9 @@ module _ (frame : List ℕ) (at : ℕ) where
       go (no h) = let lt : at < length frame = omega arith in rw (from_byte frame at lt)
 
   -- a test that was made beforehand
-  pub if-tested : (k : ℕ) (p : ℕ → Bool) {t : Bool} {r : FormEnd} → t ≡ p (get_or frame at 0) → r ≡ skipped frame at (byte_if k (λ _. t))
+  pub if-tested : (k : ℕ) (p : ℕ → Bool) {j : ℕ} {t : Bool} {r : FormEnd} → t ≡ p (get_or frame at 0) → r ≡ skipped frame at (byte_if j (λ _. t)) → j ≡ k
       → r ≡ skipped frame at (byte_if k p)
-  if-tested k p e h = h ∙ rw e (if_here k p)
+  if-tested k p e h q = h ∙ rw (q, e) (if_here k p)
 
   module _ (lt : at < length frame) (k : ℕ) (p : ℕ → Bool) where
     if-reads : p (get_or frame at 0) ≡ true → byte_if k p (drop at frame) ≡ Read.ok (get_or frame at 0) (drop (at + 1) frame)
@@ -115,7 +115,7 @@ module _ (frame : List ℕ) (at : ℕ) where
 module _ (frame : List ℕ) (at : ℕ) (cols : List ℕ) {t : Bool} {r : FormEnd} (p : t ≡ ltb (get_or frame at 0) (length cols))
     (e : r ≡ skipped frame at (byte_if 6 (λ _. t))) where
   item : r ≡ skipped frame at (byte_if 6 (λ i. ltb i (length cols)))
-  item = if-tested frame at 6 (λ i. ltb i (length cols)) p e
+  item = if-tested frame at 6 (λ i. ltb i (length cols)) p e refl
 
   pub place-next : {n c : ℕ} → r ≡ FormEnd.next n → c ≡ get_or cols (get_or frame at 0) 0 → skipped frame at (place cols) ≡ skipped frame n (byte_if 6 (λ b. ltb b c))
   place-next {n} h q =

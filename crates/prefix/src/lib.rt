@@ -121,6 +121,7 @@ impl Reader<'_> {
     // An expression.
     // Refused: a condition; the form at 0.
     #[cycle(forms)]
+    #[tactic(auto, using(crate::proofs::Tokens::form_e))]
     pub fn expression(&self, at: usize) -> Result<usize, Reason>
         ensures { skip_told result ≡ skipped self.now.frame.now at (read_e (open_of self.now.relations.now self.now.setting)) }
     {
@@ -133,6 +134,7 @@ impl Reader<'_> {
     // A condition.
     // Refused: the form at 0; an expression.
     #[cycle(forms)]
+    #[tactic(auto, using(crate::proofs::Tokens::form_c))]
     pub fn condition(&self, at: usize) -> Result<usize, Reason>
         ensures { skip_told result ≡ skipped self.now.frame.now at (read_c (open_of self.now.relations.now self.now.setting)) }
     {
@@ -185,7 +187,7 @@ impl Reader<'_> {
     }
 
     // What stands behind a condition's token.
-    // Refused: 10 is unknown.
+    // Refused: 10 is unknown; 17 is unknown.
     #[cycle(forms)]
     fn behind_condition(&self, at: usize, token: u8) -> Result<usize, Reason>
         requires { at ≤ length self.now.frame.now }

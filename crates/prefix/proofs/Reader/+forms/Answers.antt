@@ -12,7 +12,7 @@ use Rattle.prefix.proofs.Fields.{form-is-4}
 use Rattle.language.specs.Reading.{byte_if, step, read_e, read_c}
 use Rattle.prefix.proofs.Ends.{field-if, field_step, field_e, field_c}
 use Rattle.prefix.proofs.Skips.{level-refl, past_end, then-further, then_next, then-stop}
-use Rattle.prefix.proofs.Tokens.{on-constant, on-place, on-operation, on-rounding, on-choice, on-aggregate, unknown_e, on-always, on-comparison, on-negated, on-connection, on-exists, refused-seventh, looked-next, looked-further, looked-stop, unknown_c, form_e, form_c}
+use Rattle.prefix.proofs.Tokens.{on-constant, on-place, on-operation, on-rounding, on-choice, on-aggregate, unknown_e, on-always, on-comparison, on-negated, on-connection, on-exists, refused-seventh, looked-next, looked-further, looked-stop, unknown_c}
 use Rattle.prefix.proofs.Reader.+forms.Goals as goal
 
 abbrev kinds : ℕ → Bool
@@ -112,14 +112,8 @@ behind_expression-returns-in_default t c = sym (unknown_e _ _ _ c.args.token (om
 pub condition-returns-then-self-at : goal.condition-returns-then-self-at
 condition-returns-then-self-at t c = sym (past_end _ (field_c _) _ c.if-self-at.true)
 
-pub condition-returns : goal.condition-returns
-condition-returns t c = c.behind_condition.ensures ∙ sym (form_c _ _ _ c.if-self-at.false)
-
 pub expression-returns-then-self-at : goal.expression-returns-then-self-at
 expression-returns-then-self-at t c = sym (past_end _ (field_e _) _ c.if-self-at.true)
-
-pub expression-returns : goal.expression-returns
-expression-returns t c = c.behind_expression.ensures ∙ sym (form_e _ _ _ c.if-self-at.false)
 
 pub two_conditions-condition-requires-2 : goal.two_conditions-condition-requires-2
 two_conditions-condition-requires-2 t c = let h = then-further _ (field_c _) _ c.condition.ensures (ap skip_told c.in_ok-next.was) in (omega arith, tt)
