@@ -132,7 +132,7 @@ impl Reader<'_> {
     }
 
     // A condition.
-    // Refused: the form at 0; an expression.
+    // Refused: the form at 0; an expression; 10 and 17 are unknown.
     #[cycle(forms)]
     #[tactic(auto, using(crate::proofs::Tokens::form_c))]
     pub fn condition(&self, at: usize) -> Result<usize, Reason>
@@ -187,7 +187,7 @@ impl Reader<'_> {
     }
 
     // What stands behind a condition's token.
-    // Refused: 10 is unknown; 17 is unknown.
+    // Refused: 10 is unknown.
     #[cycle(forms)]
     fn behind_condition(&self, at: usize, token: u8) -> Result<usize, Reason>
         requires { at ≤ length self.now.frame.now }
