@@ -40,6 +40,11 @@ number-some WorkArea e = omega arith
 number-some Instance e = omega arith
 number-some Start e = omega arith
 
+-- what a part says that may refuse by anything, where it refuses by a reason
+pub told : {fault : (Reason → ℕ) → ℕ} {n : (Reason → ℕ) → ℕ} → ((number : Reason → ℕ) → ((e : Reason) → e ≡ Form → number e ≡ 4) → fault number ≡ n number)
+    → fault number_of ≡ n number_of
+told h = h number_of (λ e. ap number_of)
+
 -- ---- one part after the other
 
 pub chain-stop : {A : Type 0} (r : Result A Reason) (e : Reason) {m : ℕ} (n : ℕ) → IsErrAnd r (λ x. x ≡ e) → number_of e ≡ m → fault_told r ≡ first m n

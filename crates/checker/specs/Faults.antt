@@ -17,10 +17,14 @@ fault_at frame at r = fault_of (r (drop at frame))
 unfoldable pub first : ℕ → ℕ → ℕ
 first m n = cond (eqb m 0) n m
 
--- what an answer of the code says: no fault, or the number of its reason
+-- what an answer of the code says: no fault, or the number of what it refuses by
+abbrev pub fault_by : {A E : Type 0} → (E → ℕ) → Result A E → ℕ
+fault_by number (Ok x) = 0
+fault_by number (Err e) = number e
+
+-- and where that is a reason
 abbrev pub fault_told : {A : Type 0} → Result A Reason → ℕ
-fault_told (Ok x) = 0
-fault_told (Err r) = number_of r
+fault_told r = fault_by number_of r
 
 -- the first of n faults, in their order
 unfoldable pub first_among : (ℕ → ℕ) → ℕ → ℕ

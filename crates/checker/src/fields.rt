@@ -3,17 +3,23 @@ ghost use Rattle.std.specs.Prelude.{◌≡◌, ℕ, ◌<◌};
 ghost use Rattle.text.specs.Refusals.{number_of};
 ghost use Rattle.language.specs.Reading.{byte_if};
 ghost use Rattle.language.specs.Frames.{ending};
-ghost use Rattle.checker.specs.Faults.{fault_told, first_among, fault_at, under, within, from_under};
+ghost use Rattle.checker.specs.Faults.{fault_by, fault_told, first_among, fault_at, under, within, from_under};
 
 use text::refusal::Reason;
 
-// A byte from lo to hi.
+// A byte from lo to hi. The refusal is a reason, or a number of the caller's own.
 // Refused: a byte below lo kept; a byte above lo refused.
-pub fn between(frame: &[u8], at: usize, reason: Reason, lo: u8, hi: u8) -> Result<(), Reason>
-    ensures { fault_told result ≡ fault_at frame.now at (byte_if (number_of reason) (within lo hi)) }
+pub fn between<E: Copy + From<Reason>>(
+    frame: &[u8],
+    at: usize,
+    reason: E,
+    lo: u8,
+    hi: u8,
+) -> Result<(), E>
+    ensures { (number : E → ℕ) → ((e : E) → E.from_gives Reason.Form e → number e ≡ 4) → fault_by number result ≡ fault_at frame.now at (byte_if (number reason) (within lo hi)) }
 {
     if frame.len() <= at {
-        return Err(Reason::Form);
+        return Err(E::from(Reason::Form));
     }
     let b = frame[at];
     if b < lo {

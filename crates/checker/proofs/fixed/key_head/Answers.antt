@@ -1,6 +1,6 @@
 -- `checker::fixed::key_head` meets its contract. Assumes nothing.
 use Rattle.checker.specs.FixedFaults.{key_head}
-use Rattle.checker.proofs.FaultLaws.{chain-stop, chain-go}
+use Rattle.checker.proofs.FaultLaws.{told, chain-stop, chain-go}
 use Rattle.checker.proofs.fixed.key_head.Goals as goal
 
 pub returns-in_err-below : goal.returns-in_err-below
@@ -13,4 +13,4 @@ returns-in_err-below-2 c = chain-go c.in_ok-below.ensures (chain-stop _ _ _ c.fr
 
 pub returns : goal.returns
 unfolding key_head
-returns c = chain-go c.in_ok-below.ensures (chain-go c.in_ok-below-2.ensures c.between.ensures)
+returns c = chain-go c.in_ok-below.ensures (chain-go c.in_ok-below-2.ensures (told c.between.ensures))
