@@ -5,15 +5,19 @@
 use mathlib.Core.Path.{◌≡◌, refl, sym, ap, ap₂, subst, ◌∙◌}
 use mathlib.Core.Bool.{true}
 use mathlib.Core.List.{List, [], ◌∷◌}
+use mathlib.Core.Logic.{inl, inr}
 use Prim.Native.Nat.{ℕ, ◌<◌}
 use native.Mathlib.Omega.{arith}
 use lib.ListN.{length, get_or, set, drop, length-set}
+use lib.Seq.{set_out}
 use Rattle.language.specs.Reading.{Read}
 use Rattle.language.specs.Draft.{Draft, Item, added, in_order, has_room}
 use Rattle.language.specs.Frames.{frame, whole_fault}
 use Rattle.language.specs.Check.{Checked, check_frame, read_checked}
 use Rattle.checker.specs.Catalogued.{Catalogued, checked_fault, body_fault}
-use Rattle.catalog.proofs.RelationLaws.{put-other}
+use Rattle.catalog.specs.Relations.{start_at}
+use Rattle.catalog.proofs.RelationLaws.{put-there, put-other}
+use Rattle.meaning.proofs.Stacks.{by-lt}
 use Rattle.checker.specs.ViewFaults.{own_kind}
 use Rattle.catalog.specs.Kinds.{groups_rows, kind_at, number_of as kind_number}
 use Rattle.catalog.specs.declared.kind.Kind.{Kind}
@@ -44,10 +48,16 @@ reads_same d k j bs cs m e r = let p : k ≡ j = cc in let q : bs ≡ cs = cc in
 -- ---- which relations may change
 
 pub only_none : {r : ℕ} {rs : List Relation} → OnlyRelation r rs rs
-only_none = record { size = refl; others = λ i n. refl }
+only_none = record { size = refl; others = λ i n. refl; place = inr refl }
 
-pub only-stored : (r : ℕ) (x : Relation) (rs : List Relation) → OnlyRelation r rs (set rs r x)
-only-stored r x rs = record { size = length-set rs r x; others = λ i n. put-other rs r i x n }
+pub only-stored : (r : ℕ) (x : Relation) (rs : List Relation) → x.start ≡ 0 → OnlyRelation r rs (set rs r x)
+only-stored r x rs z = record {
+  size = length-set rs r x;
+  others = λ i n. put-other rs r i x n;
+  place = by-lt r (length rs)
+      (λ _ l. inl (ap (λ (y : Relation). y.start) (put-there rs r x l) ∙ z))
+      (λ _ l. inr (ap (λ ys. start_at ys r) (set_out rs r x l)));
+}
 
 -- n is the fault of the frame's body
 abbrev pub Found : ℕ → List ℕ → Progress → List Relation → ℕ → Type 0

@@ -115,9 +115,9 @@ module _ (frame : List ℕ) (start : ℕ) (items : List ℕ) (rs : List Relation
     pub so_far : Selects frame start c items rs rule (record { ranges = ranges; allowed = allowed; within = within })
     pub next : (r : ℕ) (es : List Expr) (rest : List ℕ) → repeated c (read_e (open_in rs r items)) (drop start frame) ≡ Read.ok es rest → drop at frame ≡ rest
 
-  pub selects-none : (ranges : List Range) → length ranges ≡ 8 → SelectsTo 0 ranges start true true
+  pub selects-none : (ranges : List Range) → length ranges ≡ 8 → ((k : ℕ) → get_or ranges k no_range ≡ no_range) → SelectsTo 0 ranges start true true
   unfolding listed
-  selects-none ranges long = record {
+  selects-none ranges long none = record {
     long = long;
     so_far = record {
       selects = λ l r es rest h.
@@ -126,6 +126,7 @@ module _ (frame : List ℕ) (start : ℕ) (items : List ℕ) (rs : List Relation
             ap (all (within_e (open_ranges_in rs r items rule.bound))) e,
             λ _. ap (map (range (open_ranges_in rs r items rule.bound))) e,
           );
+      rest = λ k l. none k;
     };
     next = λ r es rest h. cc;
   }
@@ -153,6 +154,7 @@ module _ (frame : List ℕ) (start : ℕ) (items : List ℕ) (rs : List Relation
                 ap (λ m. first_ranges m (c + 1)) put ∙ first-more ranges c (range I x) (omega (arith, s.long))
                 ∙ ap (λ xs. xs ++ (range I x ∷ [])) (had t₀) ∙ sym (map-append (range I) es₀ (x ∷ [])) ∙ ap (map (range I)) (sym w),
           );
+      rest = λ k l. rest-of z.range q k l ∙ s.so_far.rest k (omega arith);
     };
     next = λ r es rest h.
         let reader = read_e (open_in rs r items) in
@@ -163,6 +165,10 @@ module _ (frame : List ℕ) (start : ℕ) (items : List ℕ) (rs : List Relation
       length-of : (o : Option Range) → Stored o c ranges within ranges' within' → length ranges' ≡ length ranges
       length-of (Some x) e = ap length e.0 ∙ length-set ranges c x
       length-of None e = ap length e.0
+
+      rest-of : (o : Option Range) → Stored o c ranges within ranges' within' → (k : ℕ) → c + 1 ≤ k → get_or ranges' k no_range ≡ get_or ranges k no_range
+      rest-of (Some x) e k l = ap (λ xs. get_or xs k no_range) e.0 ∙ get_or-set_other ranges c k x no_range (λ p. omega arith)
+      rest-of None e k l = ap (λ xs. get_or xs k no_range) e.0
 
   pub selects-all : {c count : ℕ} {ranges : List Range} {at : ℕ} {allowed within : Bool} → SelectsTo c ranges at allowed within → c ≡ count
       → Selects frame start count items rs rule (record { ranges = ranges; allowed = allowed; within = within })
@@ -183,6 +189,7 @@ tail-ruled frame head count items rs rule a s S f w = record {
         fault = f ∙ ap₂ (λ u v. view_fault (head.allowed && u) rule.bound (head.within && v)) p q;
         told = λ x e. rw (w x e) (refl, l, λ t. g (q ∙ (and_parts head.within _ t).1));
       };
+  entered = λ x e. rw (w x e) (record { mask = refl; start = refl; rest = S.rest });
 }
 
 ruled-as : {A A' W W' : Bool} {es : List Expr} {I : OpenRanges} {a : Result Relation Reason} → A ≡ A' → W ≡ W' → RuledAs A W es I a → RuledAs A' W' es I a
@@ -350,6 +357,7 @@ module _ (frame : List ℕ) (rs : List Relation) (a : Result Relation Reason) (o
         record {
           fault = λ d q c h. (basic-ruling d c (relation_count d) refl a q frame o.parts froms O.froms O.parts_are B h).fault;
           told = λ d q x w c h. (basic-ruling d c (relation_count d) refl a q frame o.parts froms O.froms O.parts_are B h).told x w;
+          entered = s.entered;
         };
   }
 
@@ -363,6 +371,7 @@ module _ (frame : List ℕ) (rs : List Relation) (a : Result Relation Reason) (o
         record {
           fault = λ d q c h. (grouped-ruling d c (relation_count d) refl a q frame o.parts froms O.froms O.parts_are B (grouped-read d frame q h)).fault;
           told = λ d q x w c h. (grouped-ruling d c (relation_count d) refl a q frame o.parts froms O.froms O.parts_are B (grouped-read d frame q h)).told x w;
+          entered = s.entered;
         };
   }
 

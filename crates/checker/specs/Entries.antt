@@ -1,5 +1,5 @@
 -- The relation that a frame without fault adds. Assumes nothing: these are definitions.
-use Rattle.std.specs.Prelude.{◌≡◌, List, ℕ, ◌+◌, ◌*◌, ◌<◌, min, get_or}
+use Rattle.std.specs.Prelude.{◌≡◌, List, ℕ, ◌+◌, ◌*◌, ◌≤◌, ◌<◌, min, get_or}
 use Rattle.value.specs.Integer.{bytes_z}
 use Rattle.value.specs.Value.{Column}
 use Rattle.range.specs.declared.Range.{Range}
@@ -30,20 +30,30 @@ abbrev pub joined_with : SetOperation → ℕ → ℕ → ℕ
 joined_with SetOperation.union left right = right
 joined_with SetOperation.intersection left right = left
 
--- what is said of the ranges of the first n columns, of at most eight
+-- what is said of the ranges of the first n columns, of at most eight; behind them stands 0 to 0
 pub record RangesBy (f : ℕ → Range → Type 0) (n : ℕ) (ranges : List Range) : Type 0 where
   pub column : (c : ℕ) → c < n → c < 8 → f c (get_or ranges c no_range)
+  pub rest : (c : ℕ) → n ≤ c → get_or ranges c no_range ≡ no_range
 
--- ---- the relation of a frame, on any bytes
+-- ---- the relation of a frame, on any bytes; the place of its frame is noted when every frame has been walked, and is 0 till then
 
 pub record TableOf (frame : List ℕ) (x : Relation) : Type 0 where
   pub width : x.width ≡ (table_parts_in frame).width
   pub bound : x.bound ≡ (table_parts_in frame).rows
   pub mask : x.mask ≡ (table_parts_in frame).mask
+  pub start : x.start ≡ 0
   pub ranges : RangesBy (λ c r. r ≡ column_in frame c) x.width x.ranges
 
--- of relations left and right
+-- of relations left and right; a view has no key
 pub record SetOf (op : SetOperation) (left right : ℕ) (rs : List Relation) (x : Relation) : Type 0 where
   pub width : let other = joined_with op left right in x.width ≡ min (width_at rs left) (width_at rs other)
   pub bound : x.bound ≡ min (set_bound op (bound_at rs left) (bound_at rs right)) 255
+  pub mask : x.mask ≡ 0
+  pub start : x.start ≡ 0
   pub ranges : let other = joined_with op left right in RangesBy (λ c r. r ≡ hull_at rs left other c) x.width x.ranges
+
+-- of a basic or an aggregate view, what is neither its row bound nor of its columns
+pub record NewView (x : Relation) : Type 0 where
+  pub mask : x.mask ≡ 0
+  pub start : x.start ≡ 0
+  pub rest : (c : ℕ) → x.width ≤ c → get_or x.ranges c no_range ≡ no_range

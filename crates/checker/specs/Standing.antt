@@ -1,5 +1,5 @@
 -- What the checker's counts stand for, and what one frame does to them and to the relations. Assumes nothing: these are definitions.
-use Rattle.std.specs.Prelude.{◌≡◌, Result, Ok, Err, Bool, true, false, cond, List, [], ℕ, ◌+◌, min, ltb, leb, eqb, length, drop}
+use Rattle.std.specs.Prelude.{◌≡◌, ◌⊎◌, Result, Ok, Err, Bool, true, false, cond, List, [], ℕ, ◌+◌, min, ltb, leb, eqb, length, drop}
 use Rattle.std.proofs.Math.Option.{some}
 use Rattle.text.specs.declared.refusal.Reason.{Reason}
 use Rattle.meaning.specs.Syntax.{Goal}
@@ -7,7 +7,7 @@ use Rattle.language.specs.Reading.{Read}
 use Rattle.language.specs.Draft.{Draft, Item, added, relation_count, stage, stage_of, in_order, has_room}
 use Rattle.language.specs.Frames.{frame, whole_fault}
 use Rattle.language.specs.Check.{Checked, check_frame}
-use Rattle.catalog.specs.Relations.{relation_at}
+use Rattle.catalog.specs.Relations.{relation_at, start_at}
 use Rattle.catalog.specs.declared.plan.Goal.{Goal as GoalHere}
 use Rattle.checker.specs.Faults.{fault_told}
 use Rattle.checker.specs.Catalogued.{Catalogued, checked_fault, body_fault}
@@ -73,10 +73,11 @@ pub record DraftIn (d : Draft) (s : Progress) (rs : List Relation) : Type 0 wher
   pub catalogued : Catalogued d rs
   pub fits : KeysFit d
 
--- what may change where relation r is entered: no other relation
+-- what may change where relation r is entered: no other relation; and the place of its frame is 0, or what it was
 pub record OnlyRelation (r : ℕ) (rs rs' : List Relation) : Type 0 where
   pub size : length rs' ≡ length rs
   pub others : (i : ℕ) → (i ≡ r → ⊥) → relation_at rs' i ≡ relation_at rs i
+  pub place : (start_at rs' r ≡ 0) ⊎ (start_at rs' r ≡ start_at rs r)
 
 -- what the frame f of kind k does when its turn has come: with a fault no relation changes. All else is open where the relations stand for no
 -- draft: `walk` begins with those of the empty draft, ends at the first fault, and a refusal has no relations.

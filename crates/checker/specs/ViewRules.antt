@@ -7,7 +7,7 @@ use Rattle.meaning.specs.Lists.{all}
 use Rattle.meaning.specs.Syntax.{Expr, View}
 use Rattle.language.specs.Reading.{Read, read_e}
 use Rattle.meaning.specs.Bounds.{OpenRanges, range, within_e, allowed_e, view_schema}
-use Rattle.catalog.specs.Relations.{bound_at, first_ranges, ranges_of, schema_of}
+use Rattle.catalog.specs.Relations.{no_range, bound_at, first_ranges, ranges_of, schema_of}
 use Rattle.catalog.specs.Frames.{froms_in, parts_after}
 use Rattle.catalog.specs.Items.{relations_in, open_in, open_ranges_in}
 use Rattle.bounds.specs.Walk.{permitted_of, TestsC}
@@ -19,6 +19,7 @@ use Rattle.language.specs.Frames.{repeated, whole_fault}
 use Rattle.checker.specs.Catalogued.{Catalogued}
 use Rattle.checker.specs.Faults.{fault_told}
 use Rattle.checker.specs.ViewFaults.{own_frame}
+use Rattle.checker.specs.Entries.{NewView}
 use Rattle.checker.specs.declared.view_rules.Selected.{Selected}
 use Rattle.checker.specs.declared.view_rules.Opening.{Opening}
 use Rattle.catalog.specs.declared.relation.Relation.{Relation}
@@ -44,7 +45,7 @@ view_fault allowed bound within = cond allowed (cond (leb bound 64) (cond within
 abbrev pub plain_rule : ℕ → Bool → Rule
 plain_rule bound filter = record { bound = bound; part = cond filter Where Plain }
 
--- ---- the select expressions: c of them from a position on, r relations being before the view
+-- ---- the select expressions: c of them from a position on, r relations being before the view; behind their ranges stands 0 to 0
 
 pub record Selects (frame : List ℕ) (start c : ℕ) (items : List ℕ) (rs : List Relation) (rule : Rule) (s : Selected) : Type 0 where
   pub selects : c ≤ 8 → (r : ℕ) (es : List Expr) (rest : List ℕ)
@@ -52,6 +53,7 @@ pub record Selects (frame : List ℕ) (start c : ℕ) (items : List ℕ) (rs : L
       → (s.allowed ≡ all (allowed_e (permitted_of frame rule)) es)
       × (s.within ≡ all (within_e (open_ranges_in rs r items rule.bound)) es)
       × (s.within ≡ true → first_ranges s.ranges c ≡ map (range (open_ranges_in rs r items rule.bound)) es)
+  pub rest : (k : ℕ) → c ≤ k → get_or s.ranges k no_range ≡ no_range
 
 -- what is answered for a view with the select expressions es: `allowed` is the rule on 07, `within` that on ranges, I what is open
 pub record RuledAs (allowed within : Bool) (es : List Expr) (I : OpenRanges) (a : Result Relation Reason) : Type 0 where
@@ -64,6 +66,7 @@ pub record Tail (frame : List ℕ) (head : Tested) (count : ℕ) (items : List �
       → RuledAs (head.allowed && all (allowed_e (permitted_of frame rule)) es)
       (head.within && all (within_e (open_ranges_in rs r items rule.bound)) es)
       es (open_ranges_in rs r items rule.bound) a
+  pub entered : (x : Relation) → a ≡ Ok x → NewView x
 
 -- ---- the whole frame
 
@@ -74,12 +77,13 @@ pub record OpeningOf (grouped : Bool) (frame : List ℕ) (rs : List Relation) (o
   pub product : ProductBound rs (relations_in o.items) o.bound
   pub tested : TestsC frame o.parts.body (relations_in o.items) rs (plain_rule o.bound true) o.filter
 
--- for every draft that the relations stand for, and every view that the frame's bytes read as
+-- for every draft that the relations stand for, and every view that the frame's bytes read as; `entered` on any bytes
 pub record Rules (grouped : Bool) (frame : List ℕ) (rs : List Relation) (a : Result Relation Reason) : Type 0 where
   pub fault : (d : Draft) (q : View) → Catalogued d rs → own_frame grouped d (drop 1 frame) ≡ Read.ok (Item.view q) []
       → fault_told a ≡ whole_fault d (Item.view q)
   pub told : (d : Draft) (q : View) (x : Relation) → a ≡ Ok x → Catalogued d rs → own_frame grouped d (drop 1 frame) ≡ Read.ok (Item.view q) []
       → whole_fault d (Item.view q) ≡ 0 → (x.width ≤ 8) × (view_schema (schemas_of d) q ≡ schema_of x)
+  pub entered : (x : Relation) → a ≡ Ok x → NewView x
 
 -- for a frame that begins so
 pub record RulesFrom (grouped : Bool) (o : Opening) (frame : List ℕ) (rs : List Relation) (a : Result Relation Reason) : Type 0 where
