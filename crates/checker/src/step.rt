@@ -49,8 +49,8 @@ fn set_step(
     ensures { Turned (set_kind (operation_of operation)) frame.now s relations.old relations.new result }
 {
     fixed::set_fault(frame, relations, s.tables, s.relations, operation)?;
-    let view = entries::set_of(operation, frames::set_parts(frame), relations);
-    slice::put_item(relations, s.relations as usize, view);
+    let joined = entries::set_of(operation, frames::set_parts(frame), relations);
+    slice::put_item(relations, s.relations as usize, joined);
     Ok(s.with_view())
 }
 

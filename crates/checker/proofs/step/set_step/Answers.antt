@@ -7,4 +7,4 @@ pub returns-in_err-set_fault : goal.returns-in_err-set_fault
 returns-in_err-set_fault c = set-refused _ _ _ (exit_is _ c.from_residual.ensures.1) c.in_err-set_fault.ensures
 
 pub returns : goal.returns
-returns c = rw c.put_item.ensures (set-done _ _ c.in_ok-set_fault.ensures c.set_parts.ensures c.set_of-view.ensures c.with_view.ensures)
+returns c = rw c.put_item.ensures (set-done _ _ c.in_ok-set_fault.ensures c.set_parts.ensures c.set_of-joined.ensures c.with_view.ensures)
