@@ -82,12 +82,13 @@ impl Progress {
     pub(crate) fn turn(self, number: u8) -> Result<Kind, Reason>
         ensures { (fault_told result ≡ turn_fault self number) × ((kind : Kind) → result ≡ Ok kind → kind_at number ≡ Some kind) }
     {
+        let order = Reason::Order;
         let Some(kind) = Kind::from_number(number) else {
-            return Err(Reason::Order);
+            return Err(order);
         };
         let stage = Stage::of(kind);
         if stage.number() < self.stage.number() {
-            return Err(Reason::Order);
+            return Err(order);
         }
         if self.has_room(stage) {
             Ok(kind)
