@@ -40,7 +40,7 @@ inside [] k e = absurd (true≢false (sym e))
 inside (x ∷ l) zero e = omega arith
 inside (x ∷ l) (suc k) e = let h = inside l k e in omega arith
 
-more-put : (flags : List Bool) (i : ℕ) → More flags (set flags i true)
+pub more-put : (flags : List Bool) (i : ℕ) → More flags (set flags i true)
 more-put flags i = record {
   size = length-set flags i true;
   kept = λ j f. by-test (eqb j i)

@@ -6,7 +6,7 @@ use mathlib.Core.Option.{some}
 use Prim.Native.Nat.{ℕ, suc, ◌+◌, ◌-◌, ◌≤◌, ◌<◌}
 use native.Mathlib.Omega.{arith}
 use lib.Dec.{eqb, ltb, leb}
-use lib.ListN.{length, get_or, length-set}
+use lib.ListN.{length, get_or}
 use borrow.Author.Tests.{eqb-true, eqb-false, lt-ltb, le-leb}
 use Rattle.value.specs.Bag.{All}
 use Rattle.value.proofs.Decides.{by-test}
@@ -27,10 +27,10 @@ use Rattle.catalog.specs.FileIn.{Source, FileIn}
 use Rattle.catalog.specs.declared.plan.Goal.{Goal as GoalHere}
 use Rattle.catalog.proofs.ViewParts.{view-parts}
 use Rattle.cases.specs.declared.needs.Needs.{Needs}
-use Rattle.cases.specs.Needs.{Flag, Needed, Asked, Asks, flags_of, own_conditions, no_flags, goal_needs, More, set_flags, named_in, with_rows, with_signs, with_needs, NamesSet, NeedsRows, NeedsSigns, NeedsOf}
+use Rattle.cases.specs.Needs.{Flag, Needed, Asked, Asks, flags_of, own_conditions, no_needs, goal_needs, with_goal, More, set_flags, named_in, with_rows, with_signs, with_needs, NamesSet, NeedsRows, NeedsSigns, NeedsWith, NeedsOf}
 use Rattle.cases.proofs.ViewKinds.{kind-own, kind-set}
 use Rattle.cases.proofs.LookedInto.{named-all, named-below, front_below}
-use Rattle.cases.proofs.FlagLaws.{more_same, more-more, more-all, no_flag, flag-as, flag-there}
+use Rattle.cases.proofs.FlagLaws.{more_same, more-more, more-all, no_flag, flag-as, more-put, flag-there}
 
 -- ---- what one view needs
 
@@ -243,40 +243,49 @@ module _ {source : Source} {first : Needs} {v : ℕ} {needs needs₁ needs₂ : 
 
 -- ---- the goal's own flag first
 
-goal-sizes : (g : GoalHere) → (length (goal_needs g).rows ≡ 16) × (length (goal_needs g).signs ≡ 16)
-unfolding goal_needs
-goal-sizes g = by-test g.negative
-    (λ t. (rw t refl, rw t (length-set no_flags g.view true)))
-    (λ t. (rw t (length-set no_flags g.view true), rw t refl))
+goal-grown : (g : GoalHere) (needs : Needs) → Grown needs (with_goal g needs)
+unfolding with_goal
+goal-grown g needs = by-test g.negative
+    (λ t. rw t (record { rows = more_same needs.rows; signs = more-put needs.signs g.view }))
+    (λ t. rw t (record { rows = more-put needs.rows g.view; signs = more_same needs.signs }))
 
-goal-flag : (g : GoalHere) → g.view < 16 → Flag (flags_of g.negative (goal_needs g)) g.view
-unfolding goal_needs
-goal-flag g h = by-test g.negative
-    (λ t. rw t (flag-there no_flags g.view (omega arith)))
-    (λ t. rw t (flag-there no_flags g.view (omega arith)))
+goal-flag : (g : GoalHere) (needs : Needs) → g.view < length needs.rows → g.view < length needs.signs → Flag (flags_of g.negative (with_goal g needs)) g.view
+unfolding with_goal
+goal-flag g needs h k = by-test g.negative
+    (λ t. rw t (flag-there needs.signs g.view k))
+    (λ t. rw t (flag-there needs.rows g.view h))
 
 grown-flag : {needs needs' : Needs} {v : ℕ} → Grown needs needs' → (asked : Bool) → Flag (flags_of asked needs) v → Flag (flags_of asked needs') v
 grown-flag {v = v} n true f = n.signs.kept v f
 grown-flag {v = v} n false f = n.rows.kept v f
 
-pub needs-all : {source : Source} {g : GoalHere} {v : ℕ} {needs : Needs} → v ≤ source.outline.tables → Reached source (goal_needs g) v needs → NeedsOf source g needs
+pub needs-all : {source : Source} {first : Needs} {g : GoalHere} {v : ℕ} {needs : Needs} → length first.rows ≡ 16 → length first.signs ≡ 16
+    → v ≤ source.outline.tables → Reached source (with_goal g first) v needs → NeedsWith source first g needs
 unfolding with_needs
-needs-all {source} {g} {v} {needs} h r = record {
-  here =
-      let o = source.outline in
-      let z : v - o.tables ≡ 0 = omega arith in
-      sym (ap (λ k. with_needs source.bytes source.relations o.tables k needs) z) ∙ r.here;
-  covers = λ {F} G W.
-      let sizes = goal-sizes g in
-      let f = r.from G sizes.0 sizes.1 in
-      let few : g.view < 16 = omega (arith, W.before, G.legal.relation_count) in
-      record {
-        view = W;
-        goal = grown-flag (record { rows = r.rows; signs = r.signs }) g.negative (goal-flag g few);
-        rows = λ u q d k. f.rows u q (below G u q d) d k;
-        signs = λ u q d k. f.signs u q (below G u q d) d k;
-      };
-}
+needs-all {source} {first} {g} {v} {needs} rows signs h r =
+    let one = goal-grown g first in
+    record {
+      here =
+          let o = source.outline in
+          let z : v - o.tables ≡ 0 = omega arith in
+          sym (ap (λ k. with_needs source.bytes source.relations o.tables k needs) z) ∙ r.here;
+      more-rows = more-more one.rows r.rows;
+      more-signs = more-more one.signs r.signs;
+      covers = λ {F} G W.
+          let f = r.from G (one.rows.size ∙ rows) (one.signs.size ∙ signs) in
+          let few : g.view < 16 = omega (arith, W.before, G.legal.relation_count) in
+          record {
+            view = W;
+            goal = grown-flag (record { rows = r.rows; signs = r.signs }) g.negative (goal-flag g first (omega (arith, few, rows)) (omega (arith, few, signs)));
+            rows = λ u q d k. f.rows u q (below G u q d) d k;
+            signs = λ u q d k. f.signs u q (below G u q d) d k;
+          };
+    }
   where
     below : {F : File} → FileIn F source → (u : ℕ) (q : View) → query (length F.tables) F u ≡ some q → v ≤ u
     below {F} G u q d = let x = query-split (length F.tables) F u q d in omega (arith, x.0, h, G.tables)
+
+-- no flag before that of the goal
+pub needs-alone : {source : Source} {g : GoalHere} {needs : Needs} → NeedsWith source no_needs g needs → NeedsOf source g needs
+unfolding with_goal goal_needs
+needs-alone w = record { here = w.here; covers = w.covers }

@@ -74,6 +74,13 @@ goal_needs g = record {
   signs = cond g.negative (set no_flags g.view true) no_flags;
 }
 
+-- the same beside flags that are set
+unfoldable pub with_goal : GoalHere → Needs → Needs
+with_goal g needs = record {
+  rows = cond g.negative needs.rows (set needs.rows g.view true);
+  signs = cond g.negative (set needs.signs g.view true) needs.signs;
+}
+
 -- flags are only ever set
 pub record More (flags flags' : List Bool) : Type 0 where
   pub size : length flags' ≡ length flags
@@ -140,7 +147,15 @@ pub record NeedsSigns (frame : List ℕ) (needs : Needs) (v : ℕ) (needs' : Nee
       → All (Asked needs') (names q)
   pub others : (q : View) → frame ≡ view_bytes q → All (λ i. i < v) (names q) → (k : ℕ) → v ≤ k → get_or needs'.signs k false ≡ get_or needs.signs k false
 
--- which flags are set, of any bytes and arrays; that they are those that the goal depends on, of a file in memory
+-- which flags are set, of any bytes and arrays, and that those stay that were; that they are those that the goal and those depend on, of a file in
+-- memory
+pub record NeedsWith (source : Source) (first : Needs) (g : GoalHere) (needs : Needs) : Type 0 where
+  pub here : let o = source.outline in needs ≡ with_needs source.bytes source.relations o.tables (o.relations - o.tables) (with_goal g first)
+  pub more-rows : More first.rows needs.rows
+  pub more-signs : More first.signs needs.signs
+  pub covers : {F : File} → FileIn F source → GoalIn F (goal_of g) → Covers F (goal_of g) needs
+
+-- the same of a goal alone
 pub record NeedsOf (source : Source) (g : GoalHere) (needs : Needs) : Type 0 where
   pub here : let o = source.outline in needs ≡ with_needs source.bytes source.relations o.tables (o.relations - o.tables) (goal_needs g)
   pub covers : {F : File} → FileIn F source → GoalIn F (goal_of g) → Covers F (goal_of g) needs

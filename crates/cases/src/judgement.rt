@@ -11,6 +11,7 @@ use catalog::source::Source;
 use value::boolean;
 
 // Whether view v is negative, if it is asked.
+// Refused: where it is not asked; by the first relation's flag.
 fn note_sign(frame: &[u8], needs: &Needs, counts: &[u8], signs: &mut [u8], work: &mut [i32], v: u8)
     ensures { SignNoted frame.now needs.now
         (memory_from counts.now signs.old work.old) v signs.new work.new }
@@ -28,6 +29,7 @@ fn note_sign(frame: &[u8], needs: &Needs, counts: &[u8], signs: &mut [u8], work:
 }
 
 // The rows of view v, if they are needed, and their number.
+// Refused: where they are not needed; the view's number for their number.
 fn note_rows(
     frame: &[u8],
     relations: &[Relation],

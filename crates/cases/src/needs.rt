@@ -1,7 +1,7 @@
 // The relations that a goal depends on: whose rows are needed, and of which it is asked whether they are negative.
 ghost use Rattle.std.specs.Prelude.{◌≡◌, ◌<◌, length};
 ghost use Rattle.catalog.specs.FileIn.{source_in};
-ghost use Rattle.cases.specs.Needs.{no_needs, all_needs, goal_needs, set_flags, behind_at, behind_to, named_in, NamesSet, NeedsRows, NeedsSigns, NeedsOf};
+ghost use Rattle.cases.specs.Needs.{no_needs, all_needs, with_goal, set_flags, behind_at, behind_to, named_in, NamesSet, NeedsRows, NeedsSigns, NeedsWith, NeedsOf};
 
 use catalog::frames;
 use catalog::plan::Goal;
@@ -37,12 +37,12 @@ impl Needs {
         }
     }
 
-    // What a goal asks itself: its sign, or its rows.
-    // Refused: the other flag; the first relation's rows.
-    pub fn of_goal(goal: Goal) -> Needs
-        ensures { result ≡ goal_needs goal }
+    // With what a goal asks itself: its sign, or its rows.
+    // Refused: the other flag; the first relation's rows; no sign; the first relation's sign.
+    fn with_goal(self, goal: Goal) -> Needs
+        ensures { result ≡ with_goal goal self }
     {
-        let mut needs = Needs::none();
+        let mut needs = self;
         let at = goal.view as usize;
         if goal.negative {
             slice::put_item(&mut needs.signs, at, true);
@@ -97,6 +97,7 @@ fn set_named(frame: &[u8], flags: &mut [bool], v: u8)
 // With the rows that view v needs: those of the relations that its frame names, if its own rows are needed or it is no set view and its sign
 // is asked.
 // The test is one of the frame's number, as it is in `with_rows`: a number of no kind, from 8 on, counts as one of a set view.
+// Refused: rows that no sign needs; the flag of the sign for that of the rows.
 fn need_rows(frame: &[u8], needs: Needs, v: u8) -> Needs
     ensures { NeedsRows frame.now needs v result }
 {
@@ -123,18 +124,26 @@ fn need_signs(frame: &[u8], needs: Needs, v: u8) -> Needs
     all
 }
 
-// What a goal depends on, from the last relation down. Which flags these are is said of every input; that none is left out, of a file in
-// memory.
+// With what a goal depends on, from the last relation down, and what the relations depend on whose flags were set before: those of several goals
+// by one call for each. Which flags these are is said of every input; that none is left out, of a file in memory.
 // Refused: the goal alone; what the first relation names for each.
-pub fn needs_of(source: &Source, goal: Goal) -> Needs
-    ensures { NeedsOf (source_in source.now) goal result }
+pub fn needs_with(source: &Source, needs: Needs, goal: Goal) -> Needs
+    ensures { NeedsWith (source_in source.now) needs goal result }
 {
     let outline = source.outline;
-    let mut needs = Needs::of_goal(goal);
+    let mut needs = needs.with_goal(goal);
     for v in (outline.tables..outline.relations).rev() {
         let frame = source.frame(v);
         needs = need_rows(frame, needs, v);
         needs = need_signs(frame, needs, v);
     }
     needs
+}
+
+// What a goal depends on.
+// Refused: the goal alone; every relation.
+pub fn needs_of(source: &Source, goal: Goal) -> Needs
+    ensures { NeedsOf (source_in source.now) goal result }
+{
+    needs_with(source, Needs::none(), goal)
 }

@@ -1,15 +1,6 @@
 -- `cases::needs::needs_of` meets its contract. Assumes nothing.
-use native.Mathlib.Omega.{arith}
-use Rattle.cases.proofs.NeedLaws.{reached-none, reached-next, needs-all}
+use Rattle.cases.proofs.NeedLaws.{needs-alone}
 use Rattle.cases.proofs.needs.needs_of.Goals as goal
 
-pub loop-v-init : goal.loop-v-init
-loop-v-init c = rw c.of_goal-needs.ensures (reached-none _ _)
-
-pub loop-v-preserved : goal.loop-v-preserved
-loop-v-preserved c =
-    reached-next c.loop-v.invariant c.loop-v-test.true (omega arith)
-    c.frame-frame.ensures c.need_rows-needs.ensures c.need_signs-needs.ensures
-
 pub returns : goal.returns
-returns c = needs-all c.loop-v-test.false c.loop-v.invariant
+returns c = needs-alone (rw c.none.ensures at c.needs_with.ensures)
