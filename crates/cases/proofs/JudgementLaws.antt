@@ -20,10 +20,10 @@ use Rattle.meaning.specs.Decided.{valid, has_row, some_row, negative, wanted, is
 use Rattle.meaning.proofs.DecidedLists.{each-length}
 use Rattle.meaning.proofs.Relations.{rows-table}
 use Rattle.catalog.specs.Frames.{frame_in}
-use Rattle.catalog.specs.FileIn.{Source, FileIn, goal_of}
+use Rattle.catalog.specs.FileIn.{Source, FileLaid, goal_of}
 use Rattle.catalog.specs.declared.outline.Outline.{Outline}
 use Rattle.catalog.specs.declared.plan.Goal.{Goal as GoalHere}
-use Rattle.catalog.proofs.FileLaws.{width_is, columns-are}
+use Rattle.catalog.proofs.FileLaws.{columns-laid}
 use Rattle.catalog.specs.declared.relation.Relation.{Relation}
 use Rattle.store.specs.Rows.{rows_in}
 use Rattle.store.proofs.RowLaws.{rows-length, only_same, only-more, only_wider}
@@ -81,18 +81,18 @@ module _ {frame : List ℕ} {relations : List Relation} {needs : Needs} {counts 
 pub record Turned (source : Source) (needs : Needs) (memory memory' : Memory) (v : ℕ) : Type 0 where
   pub first : source.outline.tables ≤ v
   pub kept : OnlyViews source.outline memory memory'
-  pub known : {F : File} {g : Goal} {d : Database} → FileIn F source → Ready F g d needs memory → Known F d needs memory' v
+  pub known : {F : File} {g : Goal} {d : Database} → FileLaid F source → Ready F g d needs memory → Known F d needs memory' v
 
 kept_same : (o : Outline) (memory : Memory) → OnlyViews o memory memory
 kept_same o memory = record { counts-size = refl; signs-size = refl; cells = only_same memory.work; counts = λ i h. refl; signs = λ i h. refl }
 
 -- the tables are known
-tables-known : {F : File} {g : Goal} {d : Database} {source : Source} {needs : Needs} {memory : Memory} → FileIn F source → Ready F g d needs memory
+tables-known : {F : File} {g : Goal} {d : Database} {source : Source} {needs : Needs} {memory : Memory} → FileLaid F source → Ready F g d needs memory
     → (v : ℕ) → v ≤ length F.tables → Known F d needs memory v
 tables-known {F} {d = d} {memory = memory} G R v h = record {
   rows-known = λ i l f.
       let there : i < length F.tables = omega arith in
-      ap (λ w. rows_in memory.work i w (get_or memory.counts i 0)) (sym (width_is G i) ∙ columns-are G i there) ∙ R.tables.table i there
+      ap (λ w. rows_in memory.work i w (get_or memory.counts i 0)) (sym (G.widths i) ∙ columns-laid G i there) ∙ R.tables.table i there
       ∙ sym (rows-table F d i (omega (arith, each-length R.shaped)));
   signs-known = λ i t l f. absurd (omega arith);
 }

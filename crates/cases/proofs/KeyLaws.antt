@@ -23,8 +23,8 @@ use Rattle.language.specs.Frames.{no_table, mask_bits}
 use Rattle.language.specs.Legal.{table_at}
 use Rattle.language.specs.Written.{mask_of}
 use Rattle.language.proofs.MaskLaws.{bits_back}
-use Rattle.catalog.specs.FileIn.{Source, FileIn}
-use Rattle.catalog.proofs.FileLaws.{columns-are}
+use Rattle.catalog.specs.FileIn.{Source, FileLaid}
+use Rattle.catalog.proofs.FileLaws.{columns-laid}
 use Rattle.catalog.specs.declared.relation.Relation.{Relation}
 use Rattle.store.specs.Layout.{cell_in}
 use Rattle.store.specs.Rows.{row_in, rows_in}
@@ -111,7 +111,7 @@ key-told : (work : List ℤ) (t rows : ℕ) (tb : Table) → key_in work t rows 
 unfolding key_in
 key-told work t rows tb = ap₂ (λ (b : Bool) (ks : List Bool). b || pairwise (differ ks) (rows_in work t (length tb.key) rows)) (no_key tb.key) (bits_back tb.key)
 
-pub keys-told : {F : File} {d : Database} {source : Source} {counts : List ℕ} {work : List ℤ} → FileIn F source → Shaped F d → TablesIn F d counts work
+pub keys-told : {F : File} {d : Database} {source : Source} {counts : List ℕ} {work : List ℤ} → FileLaid F source → Shaped F d → TablesIn F d counts work
     → keys_in source.relations counts work source.outline.tables ≡ each key_holds F.tables d
 unfolding key_at
 keys-told {F} {d} {source} {counts = counts} {work = work} G sh s =
@@ -121,5 +121,5 @@ keys-told {F} {d} {source} {counts = counts} {work = work} G sh s =
     let tb = table_at F.tables t in
     let rows = get_or counts t 0 in
     let e : length tb.key ≡ length tb.columns = (all-at G.legal.tables no_table t h).key in
-    ap₂ (key_in work t rows) (columns-are G t h ∙ sym e) (G.masks t h) ∙ key-told work t rows tb
+    ap₂ (key_in work t rows) (columns-laid G t h ∙ sym e) (G.masks t h) ∙ key-told work t rows tb
     ∙ ap (key_holds tb) (ap (λ w. rows_in work t w rows) e ∙ s.table t h))

@@ -17,3 +17,4 @@ pub mod FileLaws
 pub mod Turns
 pub mod JudgementLaws
 pub mod Preparing
+pub mod OtherRanges

@@ -23,7 +23,7 @@ use Rattle.language.specs.Legal.{Legal}
 use Rattle.language.specs.Written.{view_bytes}
 use Rattle.language.proofs.LegalAccepted.{legal-well_formed}
 use Rattle.catalog.specs.Frames.{frame_in, front_names, names_in}
-use Rattle.catalog.specs.FileIn.{Source, FileIn}
+use Rattle.catalog.specs.FileIn.{Source, FileLaid}
 use Rattle.catalog.specs.declared.plan.Goal.{Goal as GoalHere}
 use Rattle.catalog.proofs.ViewParts.{view-parts}
 use Rattle.cases.specs.declared.needs.Needs.{Needs}
@@ -136,7 +136,7 @@ pub record Reached (source : Source) (first : Needs) (v : ℕ) (needs : Needs) :
       with_needs source.bytes source.relations o.tables (v - o.tables) needs ≡ with_needs source.bytes source.relations o.tables (o.relations - o.tables) first
   pub rows : More first.rows needs.rows
   pub signs : More first.signs needs.signs
-  pub from : {F : File} → FileIn F source → length first.rows ≡ 16 → length first.signs ≡ 16 → From F v needs
+  pub from : {F : File} → FileLaid F source → length first.rows ≡ 16 → length first.signs ≡ 16 → From F v needs
 
 asks-more : {needs needs' : Needs} → Grown needs needs' → (q : View) → Asks needs q → Asks needs' q
 asks-more n (View.basic fs w es) h = more-all n.rows h
@@ -170,7 +170,7 @@ reached-none source first = record {
 module _ {source : Source} {first : Needs} {v : ℕ} {needs needs₁ needs₂ : Needs} {frame : List ℕ} (r : Reached source first v needs) (h : source.outline.tables < v)
     (l : v ≤ source.outline.relations) (place : frame ≡ frame_in source.bytes source.relations (v - 1))
     (x : NeedsRows frame needs (v - 1) needs₁) (y : NeedsSigns frame needs₁ (v - 1) needs₂) where
-  module _ {F : File} (G : FileIn F source) (rows-size : length first.rows ≡ 16) (signs-size : length first.signs ≡ 16) where
+  module _ {F : File} (G : FileLaid F source) (rows-size : length first.rows ≡ 16) (signs-size : length first.signs ≡ 16) where
     few : v - 1 < 16
     few = omega (arith, h, l, G.relations, G.legal.relation_count)
 
@@ -282,7 +282,7 @@ needs-all {source} {first} {g} {v} {needs} rows signs h r =
           };
     }
   where
-    below : {F : File} → FileIn F source → (u : ℕ) (q : View) → query (length F.tables) F u ≡ some q → v ≤ u
+    below : {F : File} → FileLaid F source → (u : ℕ) (q : View) → query (length F.tables) F u ≡ some q → v ≤ u
     below {F} G u q d = let x = query-split (length F.tables) F u q d in omega (arith, x.0, h, G.tables)
 
 -- no flag before that of the goal

@@ -30,8 +30,7 @@ use Rattle.language.specs.Legal.{Legal}
 use Rattle.language.specs.Written.{view_bytes}
 use Rattle.catalog.specs.Relations.{width_at}
 use Rattle.catalog.specs.Frames.{frame_in}
-use Rattle.catalog.specs.FileIn.{Source, FileIn}
-use Rattle.catalog.proofs.FileLaws.{width_is}
+use Rattle.catalog.specs.FileIn.{Source, FileLaid}
 use Rattle.catalog.specs.declared.relation.Relation.{Relation}
 use Rattle.store.specs.Layout.{area}
 use Rattle.store.specs.Rows.{rows_in}
@@ -51,7 +50,7 @@ view-there F v h l =
     let (q, e) = get_elem-some F.views (v - n) (omega arith) in
     (q, rw (le-ltb v n h) e)
 
-module _ {F : File} {g : Goal} {d : Database} {source : Source} {needs : Needs} (G : FileIn F source) (C : Covers F g needs) (shaped : Shaped F d) where
+module _ {F : File} {g : Goal} {d : Database} {source : Source} {needs : Needs} (G : FileLaid F source) (C : Covers F g needs) (shaped : Shaped F d) where
   abbrev L : Legal F
   L = G.legal
 
@@ -132,7 +131,7 @@ module _ {F : File} {g : Goal} {d : Database} {source : Source} {needs : Needs} 
         let (q, e) = view-there F v first last in
         let s = operands-kept q S.apart (operands-in v q e last K whole (C.rows v q e f)) in
         let widths : (i : ℕ) → i < v → width_at relations i ≡ columns_of (take v (schemas F)) i =
-        λ i h. width_is G i ∙ sym (ap (λ t. length t.ranges) (before-schema L v q e i h)) in
+        λ i h. G.widths i ∙ sym (ap (λ t. length t.ranges) (before-schema L v q e i h)) in
         ap (λ t. rows_in work₂ v (length t.ranges) (get_or counts' v 0)) (sym (own-schema L v q e))
         ∙ (R.noted f (omega (arith, small, counts-size))).rows q (own-frame q e) s widths ∙ sym (rows-view F d v q (in-d v e))
 

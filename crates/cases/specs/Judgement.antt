@@ -6,7 +6,7 @@ use Rattle.meaning.specs.Rows.{rows}
 use Rattle.meaning.specs.Bounds.{schemas}
 use Rattle.meaning.specs.Valid.{Shaped}
 use Rattle.meaning.specs.Decided.{negative, is_case}
-use Rattle.catalog.specs.FileIn.{Source, FileIn, goal_of}
+use Rattle.catalog.specs.FileIn.{Source, FileLaid, goal_of}
 use Rattle.catalog.specs.declared.outline.Outline.{Outline}
 use Rattle.catalog.specs.declared.plan.Goal.{Goal as GoalHere}
 use Rattle.catalog.specs.declared.relation.Relation.{Relation}
@@ -76,7 +76,7 @@ pub record OnlyViews (o : Outline) (memory memory' : Memory) : Type 0 where
 
 pub record Evaluates (source : Source) (needs : Needs) (memory memory' : Memory) : Type 0 where
   pub kept : OnlyViews source.outline memory memory'
-  pub known : {F : File} {g : Goal} {d : Database} → FileIn F source → Ready F g d needs memory
+  pub known : {F : File} {g : Goal} {d : Database} → FileLaid F source → Ready F g d needs memory
       → Known F d needs memory' (length F.tables + length F.views)
 
 -- ---- the case
@@ -94,4 +94,4 @@ pub record IsCase (source : Source) (needs : Needs) (g : GoalHere) (memory : Mem
   pub early : judged_further source memory ≡ false → (r ≡ false) × (memory' ≡ memory)
   pub late : judged_further source memory ≡ true → Evaluates source needs memory memory' × IsWanted g memory'.counts memory'.signs r
   pub kept : OnlyViews source.outline memory memory'
-  pub case : {F : File} {d : Database} → FileIn F source → Ready F (goal_of g) d needs memory → r ≡ is_case F (goal_of g) d
+  pub case : {F : File} {d : Database} → FileLaid F source → Ready F (goal_of g) d needs memory → r ≡ is_case F (goal_of g) d

@@ -8,7 +8,7 @@ use Rattle.meaning.specs.Bounds.{names}
 use Rattle.language.specs.Legal.{NamesView}
 use Rattle.language.specs.Written.{view_bytes}
 use Rattle.catalog.specs.Frames.{frame_in, names_in}
-use Rattle.catalog.specs.FileIn.{Source, FileIn, goal_of}
+use Rattle.catalog.specs.FileIn.{Source, FileLaid, goal_of}
 use Rattle.catalog.specs.declared.plan.Goal.{Goal as GoalHere}
 use Rattle.catalog.specs.declared.relation.Relation.{Relation}
 use Rattle.cases.specs.declared.needs.Needs.{Needs}
@@ -153,9 +153,9 @@ pub record NeedsWith (source : Source) (first : Needs) (g : GoalHere) (needs : N
   pub here : let o = source.outline in needs ≡ with_needs source.bytes source.relations o.tables (o.relations - o.tables) (with_goal g first)
   pub more-rows : More first.rows needs.rows
   pub more-signs : More first.signs needs.signs
-  pub covers : {F : File} → FileIn F source → GoalIn F (goal_of g) → Covers F (goal_of g) needs
+  pub covers : {F : File} → FileLaid F source → GoalIn F (goal_of g) → Covers F (goal_of g) needs
 
 -- the same of a goal alone
 pub record NeedsOf (source : Source) (g : GoalHere) (needs : Needs) : Type 0 where
   pub here : let o = source.outline in needs ≡ with_needs source.bytes source.relations o.tables (o.relations - o.tables) (goal_needs g)
-  pub covers : {F : File} → FileIn F source → GoalIn F (goal_of g) → Covers F (goal_of g) needs
+  pub covers : {F : File} → FileLaid F source → GoalIn F (goal_of g) → Covers F (goal_of g) needs

@@ -7,7 +7,7 @@ use Rattle.meaning.specs.Valid.{Shaped}
 use Rattle.meaning.specs.Decided.{differ, valid}
 use Rattle.language.specs.Frames.{mask_bits}
 use Rattle.catalog.specs.Relations.{width_at, mask_at}
-use Rattle.catalog.specs.FileIn.{Source, FileIn}
+use Rattle.catalog.specs.FileIn.{Source, FileLaid}
 use Rattle.catalog.specs.Frames.{frame_at, key_parts_in}
 use Rattle.catalog.specs.declared.frames.KeyParts.{KeyParts}
 use Rattle.catalog.specs.declared.relation.Relation.{Relation}
@@ -92,5 +92,5 @@ valid_in source counts work =
 -- on any arrays, and what it says of a file and a database
 pub record IsValid (source : Source) (counts : List ℕ) (work : List ℤ) (r : Bool) : Type 0 where
   pub here : r ≡ valid_in source counts work
-  pub is-valid : {F : File} {d : Database} → FileIn F source → Shaped F d → TablesIn F d counts work
+  pub is-valid : {F : File} {d : Database} → FileLaid F source → Shaped F d → TablesIn F d counts work
       → r ≡ valid F d

@@ -21,7 +21,9 @@ use Rattle.language.specs.Legal.{LegalColumn, LegalTable, table_at}
 pub use Rattle.catalog.specs.Relations.{no_column}
 use Rattle.catalog.specs.Relations.{no_range, relation_at, width_at, bound_at, schema_in, range_at, column_at}
 use Rattle.catalog.specs.declared.relation.Relation.{Relation}
-use Rattle.catalog.specs.FileIn.{TablesKnown, Source, FileIn}
+use Rattle.catalog.specs.declared.outline.Outline.{Outline}
+use Rattle.catalog.specs.Frames.{frame_at}
+use Rattle.catalog.specs.FileIn.{TablesKnown, Source, source_from, FileIn, FileLaid, SameButRanges}
 use Rattle.catalog.proofs.RelationLaws.{length-ranges}
 
 -- a table's schema is what it declares
@@ -72,3 +74,42 @@ module _ {F : File} {source : Source} (M : FileIn F source) where
   pub column-is : (t c : ℕ) → t < length F.tables → c < length (table_at F.tables t).columns
       → column_at source.relations t c ≡ get_or (table_at F.tables t).columns c no_column
   column-is = tables-are.column
+
+-- ---- by the number of the ranges alone
+
+pub laid : {F : File} {source : Source} → FileIn F source → FileLaid F source
+laid M = record {
+  legal = M.legal;
+  sized = M.sized;
+  tables = M.tables;
+  keys = M.keys;
+  relations = M.relations;
+  views = M.views;
+  foreign = M.foreign;
+  bounds = bound-is M;
+  widths = width_is M;
+  masks = M.masks;
+  filled = M.filled;
+}
+
+-- whatever the ranges are
+pub relaid : {F : File} {bytes : List ℕ} {rs rs' : List Relation} {o : Outline} → SameButRanges rs rs' → FileLaid F (source_from bytes rs o)
+    → FileLaid F (source_from bytes rs' o)
+relaid {bytes = bytes} s L = record {
+  legal = L.legal;
+  sized = s.size ∙ L.sized;
+  tables = L.tables;
+  keys = L.keys;
+  relations = L.relations;
+  views = λ v q e. ap (frame_at bytes) (s.start v) ∙ L.views v q e;
+  foreign = L.foreign;
+  bounds = λ i. s.bound i ∙ L.bounds i;
+  widths = λ i. s.width i ∙ L.widths i;
+  masks = λ i h. s.mask i ∙ L.masks i h;
+  filled = L.filled;
+}
+
+-- of a table
+pub columns-laid : {F : File} {source : Source} → FileLaid F source → (t : ℕ) → t < length F.tables
+    → width_at source.relations t ≡ length (table_at F.tables t).columns
+columns-laid {F} L t h = L.widths t ∙ ap (λ (s : Schema). length s.ranges) (table-schema F t h) ∙ length-map (table_at F.tables t).columns _

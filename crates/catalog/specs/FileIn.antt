@@ -10,7 +10,7 @@ use Rattle.meaning.specs.Bounds.{schema, schemas}
 use Rattle.meaning.specs.Candidates.{candidates}
 use Rattle.language.specs.Legal.{Legal, table_at}
 use Rattle.language.specs.Written.{mask_of, key_bytes, view_bytes}
-use Rattle.catalog.specs.Relations.{no_column, width_at, bound_at, mask_at, schema_in, column_at}
+use Rattle.catalog.specs.Relations.{no_column, width_at, bound_at, mask_at, start_at, schema_in, column_at}
 use Rattle.catalog.specs.Frames.{frame_in}
 use Rattle.catalog.specs.declared.outline.Outline.{Outline}
 use Rattle.catalog.specs.declared.plan.Goal.{Goal as GoalHere}
@@ -51,6 +51,29 @@ pub record FileIn (F : File) (source : Source) : Type 0 where
   pub masks : (i : ℕ) → i < length F.tables → mask_at source.relations i ≡ mask_of (table_at F.tables i).key
   -- "some table has a row"
   pub filled : source.outline.filled ≡ any (λ t. is_pos t.rows) F.tables
+
+-- the same but for the ranges, of which it says how many there are: what is worked out of one database reads none
+pub record FileLaid (F : File) (source : Source) : Type 0 where
+  pub legal : Legal F
+  pub sized : length source.relations ≡ 16
+  pub tables : source.outline.tables ≡ length F.tables
+  pub keys : source.outline.keys ≡ length F.keys
+  pub relations : source.outline.relations ≡ length F.tables + length F.views
+  pub views : (v : ℕ) (q : View) → query (length F.tables) F v ≡ some q → frame_in source.bytes source.relations v ≡ view_bytes q
+  pub foreign : (rest : List ℕ) × (drop source.outline.foreign source.bytes ≡ pack (map key_bytes F.keys) ++ rest)
+  -- the row bound and the number of columns of each relation, and the key of each table
+  pub bounds : (i : ℕ) → bound_at source.relations i ≡ (schema (schemas F) i).bound
+  pub widths : (i : ℕ) → width_at source.relations i ≡ length (schema (schemas F) i).ranges
+  pub masks : (i : ℕ) → i < length F.tables → mask_at source.relations i ≡ mask_of (table_at F.tables i).key
+  pub filled : source.outline.filled ≡ any (λ t. is_pos t.rows) F.tables
+
+-- relations that are the same but for their ranges
+pub record SameButRanges (rs rs' : List Relation) : Type 0 where
+  pub size : length rs' ≡ length rs
+  pub width : (r : ℕ) → width_at rs' r ≡ width_at rs r
+  pub bound : (r : ℕ) → bound_at rs' r ≡ bound_at rs r
+  pub mask : (r : ℕ) → mask_at rs' r ≡ mask_at rs r
+  pub start : (r : ℕ) → start_at rs' r ≡ start_at rs r
 
 -- ---- the plan of an accepted file
 

@@ -22,6 +22,7 @@ use Rattle.language.specs.FileOf.{file_of}
 use Rattle.checker.specs.Plans.{Plans}
 use Rattle.catalog.specs.FileIn.{source_of, PlanOf, TablesCounted}
 use Rattle.catalog.specs.declared.plan.Plan.{Plan}
+use Rattle.catalog.proofs.FileLaws.{laid}
 use Rattle.language.proofs.TextLaws.{accepted-text}
 use Rattle.store.specs.Layout.{area}
 use Rattle.cases.specs.declared.needs.Needs.{Needs}
@@ -80,7 +81,7 @@ module _ (text : List ℕ) (F : File) (e : file_of text ≡ Outcome.accepted F) 
     -- "Each view's rows, counted as a bag, are those of the Extended Relational Algebra"
     pub evaluated-rows : {memory' : Memory} → Evaluated P memory' → RowsMean F (database F k) P.needs memory'
     evaluated-rows E = record {
-      relation = λ i h f. subst (MeaningOf F (database F k) i) (sym ((E.known set-up.file (ready set-up P.stands)).rows-known i h f)) (rows-mean F well-formed (database F k) i);
+      relation = λ i h f. subst (MeaningOf F (database F k) i) (sym ((E.known (laid set-up.file) (ready set-up P.stands)).rows-known i h f)) (rows-mean F well-formed (database F k) i);
       goal = λ s. subst (λ b. Wants P.needs b F.goal.view) s set-up.covers.goal;
     }
 

@@ -23,6 +23,7 @@ use Rattle.language.proofs.LegalAccepted.{legal-well_formed}
 use Rattle.catalog.specs.FileIn.{Source, FileIn, TablesCounted, goal_of}
 use Rattle.catalog.specs.declared.outline.Outline.{Outline}
 use Rattle.catalog.specs.declared.plan.Goal.{Goal}
+use Rattle.catalog.proofs.FileLaws.{laid}
 use Rattle.store.specs.Layout.{area}
 use Rattle.store.proofs.RowLaws.{cell-of-rows, only_same, only-more, only_wider}
 use Rattle.cases.specs.declared.needs.Needs.{Needs}
@@ -94,7 +95,7 @@ pub setting : {F : File} {source : Source} {needs : Needs} {g : Goal} → FileIn
 setting {F} {needs = needs} M e N = record {
   file = M;
   goal = e;
-  covers = subst (λ x. GoalIn F x → Covers F x needs) e (λ h. N.covers M h) M.legal.goal;
+  covers = subst (λ x. GoalIn F x → Covers F x needs) e (λ h. N.covers (laid M) h) M.legal.goal;
 }
 
 pub ready : {F : File} {source : Source} {needs : Needs} {g : Goal} {memory : Memory} {k : ℕ} → Setting F source needs g → At F memory k
@@ -112,7 +113,7 @@ pub judged : {source : Source} {needs : Needs} {g : Goal} {k : ℕ} {memory memo
     → (F : File) → Setting F source needs g → At F memory k → b ≡ is_case_at F k
 unfolding is_case_at
 judged {needs = needs} {k = k} {memory} {b = b} J F P A =
-    subst (λ x. Ready F x (database F k) needs memory → b ≡ is_case F x (database F k)) P.goal (J.case P.file) (ready P A)
+    subst (λ x. Ready F x (database F k) needs memory → b ≡ is_case F x (database F k)) P.goal (J.case (laid P.file)) (ready P A)
 
 -- ---- the loop
 

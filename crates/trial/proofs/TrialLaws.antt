@@ -21,6 +21,7 @@ use Rattle.language.proofs.TextLaws.{accepted-text}
 use Rattle.catalog.specs.FileIn.{Source, source_of, TablesCounted, goal_of}
 use Rattle.catalog.specs.declared.plan.Goal.{Goal}
 use Rattle.catalog.specs.declared.plan.Plan.{Plan}
+use Rattle.catalog.proofs.FileLaws.{laid}
 use Rattle.std.proofs.Common.{Ok, Err}
 use Rattle.text.specs.Refusals.{packed_refusal}
 use Rattle.text.specs.declared.refusal.Refusal.{Refusal}
@@ -72,7 +73,7 @@ every-relation {source} {needs} {g} {counts₁ = counts₁} {work} {memory₂} C
       let tables : TablesIn F d counts₁ work = record { table = λ t h. rw (counts-are M C size t h) (T.table t h) } in
       let goal : GoalIn F (goal_of g) = subst (GoalIn F) (sym e) M.legal.goal in
       let first : Ready F (goal_of g) d needs (memory_from counts₁ (replicate 16 0) work) = record {
-        covers = N.covers M goal;
+        covers = N.covers (laid M) goal;
         shaped = shaped;
         tables = tables;
         whole = whole;
@@ -88,8 +89,8 @@ every-relation {source} {needs} {g} {counts₁ = counts₁} {work} {memory₂} C
         signs-size = omega (arith, J.kept.signs-size);
       } in
       record {
-        case = ap (λ x. cond x 1 0) (J.case M first ∙ ap (λ x. is_case F x d) e);
-        relation = λ i h. (E.known M second).rows-known i h (all-needed i (omega (arith, M.legal.relation_count)));
+        case = ap (λ x. cond x 1 0) (J.case (laid M) first ∙ ap (λ x. is_case F x d) e);
+        relation = λ i h. (E.known (laid M) second).rows-known i h (all-needed i (omega (arith, M.legal.relation_count)));
       };
 }
 
