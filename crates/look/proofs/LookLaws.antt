@@ -26,9 +26,12 @@ use Rattle.look.specs.Cells.{no_cell, file_cells, cells_in, CellsOf}
 use Rattle.look.specs.Moves.{places_from, Digits}
 use Rattle.look.specs.Scans.{Search, come_to, FirstFound, Searched}
 use Rattle.look.specs.Buffers.{Shows}
-use Rattle.look.specs.Looks.{answer_of, number_told, values_told, LooksText, cells_by, Leaves, Concludes, TellsOf, Tells, Looked, LooksAt}
+use Rattle.look.specs.Looks.{answer_by, answer_of, number_told, values_told, LooksText, cells_by, Leaves, Concludes, TellsOf, Tells, Looked, Says, LooksAt}
 use Rattle.language.specs.LookOf.{look_at, look_of}
+use Rattle.std.specs.Result.{IsErrAnd}
 use Rattle.std.proofs.Common.{Result, Ok, Err}
+use Rattle.std.proofs.lemmas.Result.{err_from_is_err_and}
+use Rattle.text.specs.Refusals.{numbers_of}
 use Rattle.text.specs.declared.refusal.Refusal.{Refusal}
 use Rattle.text.specs.declared.refusal.Reason.TheVariants.{WorkArea, Instance, Start}
 use Rattle.look.specs.declared.Answer.{Answer as Answered}
@@ -153,20 +156,39 @@ look-unsized : (F : File) (start count : ℕ) (work inst : List ℤ) → length 
 unfolding look
 look-unsized F start count work inst h = rw (lt-ltb (length work) work_size h)
 
-module _ {start count : ℕ} {work inst : List ℤ} where
-  pub at-short : (p : Result Plan Refusal) (x : Refusal) → x ≡ record { reason = WorkArea; line = 0 } → length work < work_size
-      → LooksAt p start count work inst (Err x) work inst
-  at-short p x e h = record {
+-- this crate's own refusals, of which each is made of itself
+pub says-own : Says (λ r e. e ≡ r) numbers_of
+says-own r e m = ap numbers_of m
+
+module _ {E : Type 0} {says : E → ℕ × ℕ} where
+  -- what is made of a refusal says the same
+  pub said : {made : Refusal → E → Type 0} → Says made says → {x : Refusal} {e : E} → made x e → answer_by says (Err e) ≡ answer_of (Err x)
+  said S {x} {e} m = ap (λ n. Answer.refused n.0 n.1) (S x e m)
+
+  -- a refusal of `s` says the same
+  pub said-err : {made : Refusal → E → Type 0} → Says made says → {s : Result Answered Refusal} (r : Result Answered E) {x : Refusal}
+      → s ≡ Err x → IsErrAnd r (made x) → answer_by says r ≡ answer_of s
+  said-err S r e h = let p = err_from_is_err_and r h in rw (e, p.1) (said S p.2)
+
+pub said-ok : {E : Type 0} (says : E → ℕ × ℕ) (a : Answered) → answer_by says (Ok a) ≡ answer_of (Ok a)
+said-ok says (Case k) = refl
+said-ok says NoCase = refl
+said-ok says (Spent next) = refl
+
+module _ {E : Type 0} {says : E → ℕ × ℕ} {start count : ℕ} {work inst : List ℤ} where
+  pub at-short : (p : Result Plan E) (x : Refusal) {e : E} → x ≡ record { reason = WorkArea; line = 0 } → answer_by says (Err e) ≡ answer_of (Err x)
+      → length work < work_size → LooksAt says p start count work inst (Err e) work inst
+  at-short p x k same h = record {
     work-size = refl;
     inst-size = refl;
     leaves = (refl, refl);
-    short = λ _. rw e;
-    refused = λ whole y k. absurd (omega arith);
-    accepted = λ F q k P. rw e (sym (look-unsized F start count work inst h));
+    short = λ _. rw (same, k);
+    refused = λ whole y q. absurd (omega arith);
+    accepted = λ F q j P. rw (same, k) (sym (look-unsized F start count work inst h));
   }
 
-  pub at-refused : (p : Result Plan Refusal) (r : Result Answered Refusal) (x : Refusal) → work_size ≤ length work → p ≡ Err x → r ≡ Err x
-      → LooksAt p start count work inst r work inst
+  pub at-refused : (p : Result Plan E) (r : Result Answered E) (x : E) → work_size ≤ length work → p ≡ Err x → r ≡ Err x
+      → LooksAt says p start count work inst r work inst
   at-refused p r x whole e f = record {
     work-size = refl;
     inst-size = refl;
@@ -176,15 +198,16 @@ module _ {start count : ℕ} {work inst : List ℤ} where
     accepted = λ F q k P. absurd (cc);
   }
 
-  pub at-file : (p : Result Plan Refusal) (q : Plan) {r : Result Answered Refusal} {work' inst' : List ℤ} → length work' ≡ length work → length inst' ≡ length inst
-      → work_size ≤ length work → p ≡ Ok q → Looked q start count work inst r work' inst' → LooksAt p start count work inst r work' inst'
-  at-file p q {r} {work'} {inst'} w i whole e L = record {
+  pub at-file : (p : Result Plan E) (q : Plan) {r : Result Answered E} {s : Result Answered Refusal} {work' inst' : List ℤ} → length work' ≡ length work
+      → length inst' ≡ length inst → work_size ≤ length work → p ≡ Ok q → answer_by says r ≡ answer_of s → Looked q start count work inst s work' inst'
+      → LooksAt says p start count work inst r work' inst'
+  at-file p q {r} {s} {work'} {inst'} w i whole e f L = record {
     work-size = w;
     inst-size = i;
-    leaves = rw e L.leaves;
+    leaves = rw (e, f) L.leaves;
     short = λ h. absurd (omega arith);
     refused = λ _ y k. absurd (cc);
-    accepted = λ F q' k P. let same : q' ≡ q = cc in L.finds F (subst (PlanOf F) same P) whole;
+    accepted = λ F q' k P. let same : q' ≡ q = cc in rw f (L.finds F (subst (PlanOf F) same P) whole);
   }
 
 -- ---- a look at a text
@@ -202,7 +225,7 @@ values-told (Ok (Spent next)) = refl
 values-told (Err x) = refl
 
 module _ (text : List ℕ) {p : Result Plan Refusal} {start count : ℕ} {work inst : List ℤ} {r : Result Answered Refusal} {work' inst' : List ℤ}
-    (L : LooksAt p start count work inst r work' inst') where
+    (L : LooksAt numbers_of p start count work inst r work' inst') where
   looks-so : work_size ≤ length work → (out : Outcome) (q : Result Plan Refusal) → p ≡ q → Plans out q
       → After.after (answer_of r) work' inst' ≡ look_at out start count work inst
   looks-so whole (Outcome.refused n line) (Ok q) e P = absurd P

@@ -1,6 +1,6 @@
 -- The answers of a look, and what the functions of this crate give. Assumes nothing: these are definitions.
 use Rattle.std.specs.Prelude.{◌≡◌, Result, Ok, Err, cond, List, [], ◌∷◌, ℕ, ◌≤◌, ◌<◌, eqb, ℤ, pos, length, get_or, Option, Some, None}
-use Rattle.text.specs.Refusals.{number_of as reason_number}
+use Rattle.text.specs.Refusals.{number_of as reason_number, numbers_of}
 use Rattle.text.specs.declared.refusal.Refusal.{Refusal}
 use Rattle.meaning.specs.Syntax.{File}
 use Rattle.meaning.specs.Look.{Answer, number_of, values_of, After, answer_in, zeros, work_size}
@@ -15,12 +15,15 @@ use Rattle.look.specs.Buffers.{Shows}
 use Rattle.look.specs.declared.Answer.{Answer as Answered}
 use Rattle.look.specs.declared.Answer.TheVariants.{Case, NoCase, Spent}
 
--- the document's answer
+-- the document's answer, by the number and the line that each refusal says
+abbrev pub answer_by : {E : Type 0} → (E → ℕ × ℕ) → Result Answered E → Answer
+answer_by says (Ok (Case k)) = Answer.case k
+answer_by says (Ok NoCase) = Answer.no_case
+answer_by says (Ok (Spent next)) = Answer.spent next
+answer_by says (Err e) = Answer.refused (says e).0 (says e).1
+
 abbrev pub answer_of : Result Answered Refusal → Answer
-answer_of (Ok (Case k)) = Answer.case k
-answer_of (Ok NoCase) = Answer.no_case
-answer_of (Ok (Spent next)) = Answer.spent next
-answer_of (Err r) = Answer.refused (reason_number r.reason) r.line
+answer_of r = answer_by numbers_of r
 
 -- "For each answer that is an enum, a definition gives this paper's number and values for every case of that enum": the frames 80 and k, 82, and
 -- 8f with number and line. "spent" is no frame: its number is 0, and its value next
@@ -78,15 +81,19 @@ pub record Looked (p : Plan) (start count : ℕ) (work inst : List ℤ) (r : Res
   pub finds : (F : File) → PlanOf F p → work_size ≤ length work → After.after (answer_of r) work' inst' ≡ look F start count work inst
 
 -- and as a refusal's
-abbrev pub cells_told : Result Plan Refusal → ℕ
+abbrev pub cells_told : {E : Type 0} → Result Plan E → ℕ
 cells_told (Ok p) = cells_by p
 cells_told (Err r) = 0
 
--- a look at a plan: of the plan of a file, and of a refusal
-pub record LooksAt (p : Result Plan Refusal) (start count : ℕ) (work inst : List ℤ) (r : Result Answered Refusal) (work' inst' : List ℤ) : Type 0 where
+-- what is made of a refusal says its number and its line
+abbrev pub Says : {E : Type 0} → (Refusal → E → Type 0) → (E → ℕ × ℕ) → Type 0
+Says made says = (r : Refusal) (e : _) → made r e → says e ≡ numbers_of r
+
+-- a look at a plan: of the plan of a file, and of a refusal, whatever number and line it says
+pub record LooksAt {E : Type 0} (says : E → ℕ × ℕ) (p : Result Plan E) (start count : ℕ) (work inst : List ℤ) (r : Result Answered E) (work' inst' : List ℤ) : Type 0 where
   pub work-size : length work' ≡ length work
   pub inst-size : length inst' ≡ length inst
-  pub leaves : Leaves (answer_of r) (cells_told p) work inst work' inst'
-  pub short : length work < work_size → After.after (answer_of r) work' inst' ≡ refusal 11 work inst
-  pub refused : work_size ≤ length work → (x : Refusal) → p ≡ Err x → After.after (answer_of r) work' inst' ≡ After.after (answer_of (Err x)) work inst
-  pub accepted : (F : File) (q : Plan) → p ≡ Ok q → PlanOf F q → After.after (answer_of r) work' inst' ≡ look F start count work inst
+  pub leaves : Leaves (answer_by says r) (cells_told p) work inst work' inst'
+  pub short : length work < work_size → After.after (answer_by says r) work' inst' ≡ refusal 11 work inst
+  pub refused : work_size ≤ length work → (x : E) → p ≡ Err x → After.after (answer_by says r) work' inst' ≡ After.after (answer_by says (Err x)) work inst
+  pub accepted : (F : File) (q : Plan) → p ≡ Ok q → PlanOf F q → After.after (answer_by says r) work' inst' ≡ look F start count work inst

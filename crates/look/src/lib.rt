@@ -6,8 +6,9 @@ pub mod cells;
 pub mod moves;
 pub mod scan;
 
+ghost use Rattle.std.specs.Prelude.{ℕ};
 ghost use Rattle.look.specs.Scans.{search_in};
-ghost use Rattle.look.specs.Looks.{LooksText, Concludes, Tells, Looked, LooksAt};
+ghost use Rattle.look.specs.Looks.{LooksText, Concludes, Tells, Looked, Says, LooksAt};
 
 use catalog::plan::Plan;
 use catalog::source::Source;
@@ -93,22 +94,24 @@ fn looked(
     Ok(told(&search, n, work, instance))
 }
 
-// A look at what the checker gives: 11 first, then the plan's own refusal, then 12 and 13. Which answer a plan that is of no legal file gets is
-// left open but for 11: the checker gives no such plan. What the answer leaves in the buffers is said of every plan.
-// Refused: every plan refused; 9,215 numbers as enough.
-pub fn look_at(
-    plan: Result<Plan, Refusal>,
+// A look at what the checker gives, or a caller with refusals of its own: 11 first, then the plan's own refusal, then 12 and 13. Which answer a
+// plan that is of no legal file gets is left open but for 11: the checker gives no such plan. What the answer leaves in the buffers is said of
+// every plan.
+// Refused: every plan refused; 9,215 numbers as enough; 1 for each refusal of a plan; 11 at line 1; 13 for 12.
+pub fn look_at<E: Copy + From<Refusal>>(
+    plan: Result<Plan, E>,
     start: u64,
     count: u64,
     work: &mut [i32],
     instance: &mut [i16],
-) -> Result<Answer, Refusal>
-    ensures { LooksAt plan start count work.old instance.old result work.new instance.new }
+) -> Result<Answer, E>
+    ensures { (says : E → ℕ × ℕ) → Says E.from_gives says → LooksAt says plan start count work.old instance.old result work.new instance.new }
 {
     if work.len() < AREA {
-        return Err(Reason::WorkArea.at(0));
+        return Err(E::from(Reason::WorkArea.at(0)));
     }
-    looked(plan?, start, count, work, instance)
+    let answer = looked(plan?, start, count, work, instance)?;
+    Ok(answer)
 }
 
 // A look: for every text, start, count and buffers, the answer and what the buffers then hold.

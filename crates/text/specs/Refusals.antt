@@ -20,6 +20,10 @@ number_of WorkArea = 11
 number_of Instance = 12
 number_of Start = 13
 
+-- the number and the line
+abbrev pub numbers_of : Refusal → ℕ × ℕ
+numbers_of r = (number_of r.reason, r.line)
+
 -- the number above the line, which has two bytes
 abbrev pub packed_refusal : Refusal → ℕ
 packed_refusal r = number_of r.reason * 65536 + r.line

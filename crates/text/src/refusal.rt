@@ -1,6 +1,6 @@
 // A refusal: which condition a text, a file or a call meets, and the line.
 ghost use Rattle.std.specs.Prelude.{◌≡◌};
-ghost use Rattle.text.specs.Refusals.{number_of, packed_refusal};
+ghost use Rattle.text.specs.Refusals.{number_of, numbers_of, packed_refusal};
 
 // The conditions of a refusal, by their numbers: a text's size and its lines; of a frame its kind's place in the order, its form, a field's limits,
 // what it refers to, the rule on aggregates, its row bound and its ranges; the number of candidates; and of a call the work area, the instance
@@ -66,5 +66,15 @@ impl Refusal {
         ensures { result ≡ packed_refusal self }
     {
         (self.reason.number() as u32) * 65536 + (self.line as u32)
+    }
+}
+
+// The number and the line, for a caller with refusals of its own.
+// Refused: a number one less; line 0.
+impl From<Refusal> for (u8, u16) {
+    ghost from_gives = { λ refusal numbers. numbers ≡ numbers_of refusal };
+
+    fn from(refusal: Refusal) -> (u8, u16) {
+        (refusal.reason.number(), refusal.line)
     }
 }
