@@ -1,6 +1,7 @@
 -- What the answer of a read comes to, and how reading goes on. Assumes nothing.
 use mathlib.Core.Path.{◌≡◌, refl}
 use mathlib.Core.List.{List}
+use mathlib.Core.Logic.{◌⊎◌, inl, inr}
 use Prim.Native.Nat.{ℕ, zero, suc, ◌+◌, ◌-◌, ◌≤◌, ◌<◌, min}
 use native.Mathlib.Omega.{arith}
 use borrow.Rule.Slice.PartMut.{mid_of, put_mid, same_len_mid}
@@ -25,6 +26,11 @@ module _ {E : Type 0} where
   read-ended (Ok zero) {done} {i = End n} e o h s = let m : n ≡ done = cc in omega arith
   read-ended (Ok (suc k)) {i = End n} e o h s = absurd (cc)
   read-ended (Err x) {i = End n} e o h s = absurd (cc)
+
+  -- what is read lies in the buffer
+  pub read-within : {r : Result Input E} {n : ℕ} (room : ℕ) → Reads room r → (r ≡ Ok (More n)) ⊎ (r ≡ Ok (End n)) → n ≤ room
+  read-within {r} {n} room h (inl e) = let k : n ≡ room = rw e at h in omega arith
+  read-within {r} {n} room h (inr e) = let k : n < room = rw e at h in omega arith
 
 -- a part of a buffer, written, leaves its length
 pub same-room : (done : ℕ) (text part : List ℕ) → length part ≡ length (mid_of done (length text - done) text)

@@ -48,6 +48,7 @@ fn print<P: Program>(rt: &(impl Print + Eprint), program: &P, text: &[u8], out: 
 }
 
 // Runs a program on what a reader gives, in two lent buffers. A full buffer for the text settles what is printed, whatever follows.
+// Refused: one byte more than was read; room for the output without its first byte.
 pub fn run<P: Program, R: Read>(
     rt: &(impl Print + Eprint),
     from: &mut R,
