@@ -21,6 +21,7 @@ use Rattle.sentences.specs.declared.Language.{Language as Tongue}
 use Rattle.sentences.specs.declared.Language.TheVariants.{English, French}
 use Rattle.sentences.specs.declared.Place.{Place}
 use Rattle.sentences.specs.declared.Place.TheVariants.{Alone, There}
+use Rattle.sentences.specs.declared.TheConstants.{ROOM}
 use Rattle.sentences.specs.Answers.{Put}
 use Rattle.sentences.proofs.PieceLaws.{entries}
 use Rattle.sentences.proofs.FigureLaws.{few-figures}
@@ -116,6 +117,10 @@ module _ (t : Tongue) (n : ℕ) where
         L.line,
         L.colon,
       ))
+
+-- the constant that callers take for it
+pub room-enough : (t : Tongue) (n l : ℕ) → length (sentence (language_in t) n l) ≤ ROOM
+room-enough t n l = sentence-room t n l
 
 -- ---- a language by its number
 

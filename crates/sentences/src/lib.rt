@@ -130,10 +130,11 @@ fn push_closed(text: &mut Buffer, language: Language, number: u8, line: u16)
 }
 
 // The sentence of a refusal in language 0, English, or 1, French, and its length; 0 for a buffer without room or another language, and
-// then the buffer stays as it is.
+// then the buffer stays as it is. A buffer of ROOM bytes has room for it.
 // Refused: a sentence for language 2; English for every language.
 pub fn sentence(number: u8, line: u16, language: u8, out: &mut [u8]) -> usize
-    ensures { Put (sentence_in language number line) out.old result out.new }
+    ensures put { Put (sentence_in language number line) out.old result out.new }
+    ensures room { length (sentence_in language number line) ≤ ROOM }
 {
     let Ok(language) = Language::try_from(language) else {
         return 0;

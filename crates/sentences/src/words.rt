@@ -1,6 +1,6 @@
 // The pieces of each language: one text, each piece closed by LF, in the order of `pieces`.
 ghost use Rattle.std.specs.Prelude.{◌≡◌, [], get_or};
-ghost use Rattle.sentences.specs.SheetOf.{in_lines, first_line, past_line};
+ghost use Rattle.sentences.specs.SheetOf.{language_of, in_lines, first_line, past_line};
 ghost use Rattle.sentences.specs.Pieces.{pieces, past_lines};
 ghost use Rattle.sentences.specs.Languages.{language_in};
 
@@ -142,4 +142,16 @@ pub fn piece(language: Language, k: usize) -> &'static [u8]
     ensures { result.now ≡ get_or (pieces (language_in language)) k [] }
 {
     first_line(past_lines(text_of(language), k))
+}
+
+// The same by the number of a language, which may come as any number: 0 is English, any other French.
+// Refused: English for 1; English for 2.
+pub fn piece_of(number: u8, k: usize) -> &'static [u8]
+    ensures { result.now ≡ get_or (pieces (language_of number)) k [] }
+{
+    let language = match number {
+        0 => Language::English,
+        _ => Language::French,
+    };
+    piece(language, k)
 }
