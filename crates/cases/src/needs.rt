@@ -1,7 +1,7 @@
 // The relations that a goal depends on: whose rows are needed, and of which it is asked whether they are negative.
 ghost use Rattle.std.specs.Prelude.{◌≡◌, ◌<◌, length};
 ghost use Rattle.catalog.specs.FileIn.{source_in};
-ghost use Rattle.cases.specs.Needs.{no_needs, all_needs, with_goal, set_flags, behind_at, behind_to, named_in, NamesSet, NeedsRows, NeedsSigns, NeedsWith, NeedsOf};
+ghost use Rattle.cases.specs.Needs.{no_needs, all_needs, goal_needs, with_goal, set_flags, behind_at, behind_to, named_in, NamesSet, NeedsRows, NeedsSigns, NeedsWith, NeedsOf};
 
 use catalog::frames;
 use catalog::plan::Goal;
@@ -37,7 +37,16 @@ impl Needs {
         }
     }
 
-    // With what a goal asks itself: its sign, or its rows.
+    // What a goal asks itself: its sign, or its rows.
+    // Refused: the other flag; the first relation's rows.
+    #[tactic(auto, unfolding(crate::specs::Needs::goal_needs, crate::specs::Needs::with_goal))]
+    pub fn of_goal(goal: Goal) -> Needs
+        ensures { result ≡ goal_needs goal }
+    {
+        Needs::none().with_goal(goal)
+    }
+
+    // The same beside flags that are set.
     // Refused: the other flag; the first relation's rows; no sign; the first relation's sign.
     fn with_goal(self, goal: Goal) -> Needs
         ensures { result ≡ with_goal goal self }

@@ -42,14 +42,15 @@ impl Buffer {
         self.length += 1;
     }
 
-    // Refused: the length of the new bytes alone; what stood in the buffer before, turned round.
+    // Byte by byte: `copy_from_slice` becomes a call of memmove here, which the archive for C does not ask of its callers.
+    // Refused: the length of the new bytes alone; what stood in the buffer before.
     pub fn extend(&mut self, text: &[u8])
         requires { length self.old + length text.now ≤ 1026 }
         ensures { self.new ≡ self.old ++ text.now }
     {
-        let end = self.length + text.len();
-        self.bytes[self.length..end].copy_from_slice(text);
-        self.length = end;
+        for i in 0..text.len() {
+            self.push(text[i]);
+        }
     }
 
     // Decimal figures.
