@@ -62,10 +62,13 @@ def functions(crate):
         for number, line in enumerate(source.read_text().split("\n")):
             if line == "#[cfg(test)]":
                 break
-            elif kind := re.match(r"impl(?:<[^>]*>)? (?:(\w+)(?:<(\w+)>)? for )?(\w+)", line):
-                # (an impl of a trait is named after the type, the trait and its parameter, each with a capital)
+            elif kind := re.match(r"impl(?:<[^>]*>)? (?:(\w+)(?:<(\w+)>)? for )?(\w+|\([\w, ]+\))", line):
+                # (an impl of a trait is named after the type, the trait and its parameter, each with a capital; a tuple after its size and the types in it)
                 trait, of, name = (part or "" for part in kind.groups())
-                owner = ["".join(part[:1].upper() + part[1:] for part in (name, trait, of))]
+                parts = re.findall(r"\w+", name)
+                if name[0] == "(":
+                    parts.insert(0, f"Tuple{len(parts)}")
+                owner = ["".join(part[:1].upper() + part[1:] for part in (*parts, trait, of))]
             elif line == "}":
                 owner = []
             elif named := re.match(r"\s*#\[cycle\((\w+)\)\]", line):
