@@ -11,6 +11,7 @@ use catalog::kind::{Kind, SetOperation, ViewKind};
 use catalog::relation::Relation;
 use text::refusal::Reason;
 
+// Refused: stored as the relation with the number of keys; as relation 0's.
 fn table_step(frame: &[u8], relations: &mut [Relation], s: Progress) -> Result<Progress, Reason>
     ensures { Turned 1 frame.now s relations.old relations.new result }
 {
@@ -26,6 +27,7 @@ fn key_step(frame: &[u8], relations: &[Relation], s: Progress) -> Result<Progres
     Ok(s.with_key())
 }
 
+// Refused: stored as relation 0's; as the first view's.
 fn view_step(
     kind: ViewKind,
     frame: &[u8],
