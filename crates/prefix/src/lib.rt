@@ -44,7 +44,12 @@ pub struct Reader<'a> {
 // One byte, whose test the caller has made. A refusal is a number or a reason: the contract holds of each way to number it in which a frame
 // that is too short has 4.
 // Refused: the byte is left; 4 for the reason.
-fn tested<E: Copy + From<Reason>>(frame: &[u8], at: usize, reason: E, passes: bool) -> Result<usize, E>
+fn tested<E: Copy + From<Reason>>(
+    frame: &[u8],
+    at: usize,
+    reason: E,
+    passes: bool,
+) -> Result<usize, E>
     ensures { (number : E → ℕ) → ((e : E) → E.from_gives Form e → number e ≡ 4)
         → skip_by number result ≡ skipped frame.now at (byte_if (number reason) (λ _. passes)) }
 {
@@ -65,7 +70,13 @@ pub fn below<E: Copy + From<Reason>>(frame: &[u8], at: usize, reason: E, n: u8) 
 
 // One byte from lo to hi.
 // Refused: lo for hi; hi for lo.
-pub fn between<E: Copy + From<Reason>>(frame: &[u8], at: usize, reason: E, lo: u8, hi: u8) -> Result<usize, E>
+pub fn between<E: Copy + From<Reason>>(
+    frame: &[u8],
+    at: usize,
+    reason: E,
+    lo: u8,
+    hi: u8,
+) -> Result<usize, E>
     ensures { (number : E → ℕ) → ((e : E) → E.from_gives Form e → number e ≡ 4)
         → skip_by number result ≡ skipped frame.now at (byte_if (number reason) (λ b. leb lo b && leb b hi)) }
 {
