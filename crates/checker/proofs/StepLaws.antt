@@ -5,7 +5,7 @@
 use mathlib.Core.Path.{◌≡◌, refl, sym, ap, ap₂, subst, ◌∙◌}
 use mathlib.Core.Bool.{true}
 use mathlib.Core.List.{List, [], ◌∷◌}
-use mathlib.Core.Logic.{inl, inr}
+use mathlib.Core.Logic.{inl, inr, ⊎_elim}
 use Prim.Native.Nat.{ℕ, ◌<◌}
 use native.Mathlib.Omega.{arith}
 use lib.ListN.{length, get_or, set, drop, length-set}
@@ -57,6 +57,14 @@ only-stored r x rs z = record {
   place = by-lt r (length rs)
       (λ _ l. inl (ap (λ (y : Relation). y.start) (put-there rs r x l) ∙ z))
       (λ _ l. inr (ap (λ ys. start_at ys r) (set_out rs r x l)));
+}
+
+-- one change and then another
+pub only-more : {r : ℕ} {a b c : List Relation} → OnlyRelation r a b → OnlyRelation r b c → OnlyRelation r a c
+only-more p q = record {
+  size = q.size ∙ p.size;
+  others = λ i n. q.others i n ∙ p.others i n;
+  place = ⊎_elim inl (λ e. ⊎_elim (λ z. inl (e ∙ z)) (λ z. inr (e ∙ z)) p.place) q.place;
 }
 
 -- n is the fault of the frame's body
