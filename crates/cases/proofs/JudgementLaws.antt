@@ -129,7 +129,7 @@ module _ {source : Source} {needs : Needs} {memory : Memory} where
   pub turned-all : {memory₁ : Memory} {v : ℕ} → Turned source needs memory memory₁ v → source.outline.relations ≤ v → Evaluates source needs memory memory₁
   turned-all T h = record {
     kept = T.kept;
-    known = λ G R. let K = T.known G R in record {
+    known = λ {F} G R. let K = T.known G R in record {
       rows-known = λ i l f. K.rows-known i (omega (arith, G.relations)) f;
       signs-known = λ i t l f. K.signs-known i t (omega (arith, G.relations)) f;
     };
