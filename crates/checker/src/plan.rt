@@ -127,7 +127,11 @@ fn plan_whole(
 pub fn check(text: &[u8]) -> Result<Plan, Refusal>
     ensures { Plans (file_of text.now) result }
 {
-    let frames = text::decode(text)?;
+    // (a `?` here would keep the frames twice more, and clear them at each call)
+    let frames = match text::decode(text) {
+        Ok(frames) => frames,
+        Err(refusal) => return Err(refusal),
+    };
     let bytes = frames.bytes;
     let used = frames.used;
     let mut relations = [Relation::none(); 16];
