@@ -175,6 +175,11 @@ module _ (grouped : Bool) {f : List ℕ} {s : Progress} {relations : List Relati
           (rw w (counts-view h.counts q turn), view-entered d q s.relations x relations h.catalogued h.counts.relations (omega (arith, h.counts.relations, turn.room)) few same)
       go d (Item.goal g) h e turn reads whole = absurd (omega arith)
 
+  -- the same, by a name that an attribute of the code can say
+  pub view_done : {s' : Progress} (x : Relation) → BytesFault grouped f relations s.relations 0 → Rules grouped f relations (Ok x) → s' ≡ with_view s
+      → Turned (own_kind grouped) f s relations (set relations s.relations x) (Ok s')
+  view_done = view-done
+
 -- ---- 05, 06
 
 before : (d : Draft) (i : ℕ) → is_view d i ≡ true → i < relation_count d

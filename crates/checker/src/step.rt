@@ -27,7 +27,8 @@ fn key_step(frame: &[u8], relations: &[Relation], s: Progress) -> Result<Progres
     Ok(s.with_key())
 }
 
-// Refused: stored as relation 0's; as the first view's.
+// Refused: an aggregate view stored as relation 0's; a basic one.
+#[tactic(auto, using(crate::proofs::KindLaws::view_done))]
 fn view_step(
     kind: ViewKind,
     frame: &[u8],
