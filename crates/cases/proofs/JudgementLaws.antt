@@ -40,12 +40,12 @@ use Rattle.cases.proofs.Turns.{turn-known}
 -- ---- notes
 
 module _ {frame : List ℕ} {needs : Needs} {memory : Memory} {v : ℕ} where
-  pub sign-unasked : {b : Bool} → b ≡ get_or needs.signs v false → b ≡ false → SignNoted frame needs memory v memory.signs memory.work
-  sign-unasked e h = record {
+  pub sign-unasked : {b : Bool} {k : ℕ} → b ≡ get_or needs.signs k false → k ≡ v → b ≡ false → SignNoted frame needs memory v memory.signs memory.work
+  sign-unasked e k h = record {
     apart = apart-same v memory.work;
     size = refl;
     others = λ i n. refl;
-    noted = λ f l. absurd (no_flag e h f);
+    noted = λ f l. absurd (no_flag (rw k at e) h f);
   }
 
   pub sign-noted : {r : Bool} {work' : List ℤ} {signs' : List ℕ} {b : ℕ} → IsRefuted frame memory.counts memory.signs memory.work v r work' → b ≡ tick r 0

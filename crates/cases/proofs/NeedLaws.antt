@@ -6,7 +6,7 @@ use mathlib.Core.Option.{some}
 use Prim.Native.Nat.{ℕ, suc, ◌+◌, ◌-◌, ◌≤◌, ◌<◌}
 use native.Mathlib.Omega.{arith}
 use lib.Dec.{eqb, ltb, leb}
-use lib.ListN.{length, get_or}
+use lib.ListN.{length, get_or, set}
 use borrow.Author.Tests.{eqb-true, eqb-false, lt-ltb, le-leb}
 use Rattle.value.specs.Bag.{All}
 use Rattle.value.proofs.Decides.{by-test}
@@ -50,6 +50,16 @@ and_right h e = rw h at e
 
 yes_flag : {i : ℕ} {flags : List Bool} {b : Bool} → b ≡ get_or flags i false → Flag flags i → b ≡ true
 yes_flag e f = e ∙ f.on
+
+-- the flag of a goal, where k is its view
+module _ (needs : Needs) {g : GoalHere} {flags : List Bool} {k : ℕ} where
+  pub goal-signs : flags ≡ set needs.signs k true → k ≡ g.view → g.negative ≡ true → record { rows = needs.rows; signs = flags } ≡ with_goal g needs
+  unfolding with_goal
+  goal-signs e h t = rw (e, h, t)
+
+  pub goal-rows : flags ≡ set needs.rows k true → k ≡ g.view → g.negative ≡ false → record { rows = flags; signs = needs.signs } ≡ with_goal g needs
+  unfolding with_goal
+  goal-rows e h t = rw (e, h, t)
 
 -- by what the flags of view v and the kind of its frame say
 module _ {frame : List ℕ} {needs : Needs} {v : ℕ} {needed asked : Bool} (n : needed ≡ get_or needs.rows v false) (a : asked ≡ get_or needs.signs v false) where

@@ -63,7 +63,7 @@ pub(crate) fn table_of(frame: &[u8]) -> Relation
         width: parts.width,
         bound: parts.rows,
         mask: parts.mask,
-        start: 0,
+        start: 0, // its place comes when all frames are read
         ranges,
     }
 }

@@ -203,12 +203,17 @@ module _ {s : Search} {needs : Needs} {memory : Memory} where
 
 -- ---- the search
 
-pub searches : {s : Search} {needs : Needs} {work work₁ : List ℤ} {counts : List ℕ} {r : Option ℕ} {memory₂ : Memory}
-    → TablesCounted s.source.relations s.source.outline.tables (replicate 16 0) counts → CandidatePut (places_of s) s.start work work₁
-    → NeedsOf s.source s.goal needs → Scans s needs (memory_from counts (replicate 16 0) work₁) r memory₂
-    → Searched s work r memory₂.work
-searches C P N S = record {
+-- the same from candidate k on
+abbrev search_from : Search → ℕ → Search
+search_from s k = record { source = s.source; cells = s.cells; goal = s.goal; start = k; end = s.end }
+
+-- k is where it was to begin
+pub searches : {s : Search} {needs : Needs} {work work₁ : List ℤ} {counts : List ℕ} {r : Option ℕ} {memory₂ : Memory} {k : ℕ}
+    → TablesCounted s.source.relations s.source.outline.tables (replicate 16 0) counts → CandidatePut (places_of s) k work work₁
+    → NeedsOf s.source s.goal needs → Scans (search_from s k) needs (memory_from counts (replicate 16 0) work₁) r memory₂
+    → k ≡ s.start → Searched s work r memory₂.work
+searches {s} {k = k} C P N S e = record {
   only = only-more (only_wider (λ t v. inl v) P.only) S.only;
   inside = S.inside;
-  found = λ F M e D whole h. S.found F (setting M e N) D (placed_at M D C whole P) h;
+  found = λ F M g D whole h. rw e at (S.found F (setting M g N) D (placed_at M D C whole P) (rw e h));
 }

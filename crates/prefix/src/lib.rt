@@ -214,7 +214,9 @@ impl Reader<'_> {
         }
     }
 
-    // Behind token 17: a relation, and a condition with its row open. A seventh item is refused before the relation is read.
+    // Behind token 17: a relation, and a condition with its row open. A seventh item is refused before the relation is read. Its frame holds a
+    // reader of its own; kept out of `condition`, no other token pays for it on the stack.
+    #[inline(never)]
     #[cycle(forms)]
     fn behind_exists(&self, at: usize) -> Result<usize, Reason>
         ensures { skip_told result ≡ skipped self.now.frame.now at (existing (open_of self.now.relations.now self.now.setting) read_c) }

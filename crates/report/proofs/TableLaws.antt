@@ -119,8 +119,8 @@ module _ {relations : List Relation} {tables : ℕ} {cells : List ℤ} {at : ℕ
     pub stage-short : length rest < rows * columns → TablesLined relations tables cells at out₀ place out
     stage-short l = record { lined = λ F vs T room. absurd (let o = own F vs T room in omega (arith, o.there)) }
 
-    module _ {r : ℕ} {mine behind : List ℤ} {out' : List ℕ} (m : mine ≡ take (rows * columns) rest) (b : behind ≡ drop (rows * columns) rest)
-        (L : TableLined t rows mine place out r out') where
+    module _ {r k : ℕ} {mine behind : List ℤ} {out' : List ℕ} (m : mine ≡ take (rows * columns) rest) (b : behind ≡ drop k rest)
+        (e : k ≡ rows * columns) (L : TableLined t rows mine place out r out') where
       further : (F : File) (vs : List Value) → Tabled F vs relations tables cells → at + 2160 ≤ length out₀ → Reached F vs at out₀ (t + 1) (S.first + rows * columns) r out'
       further F vs T room =
           let R = S.reached F vs T room in
@@ -154,7 +154,7 @@ module _ {relations : List Relation} {tables : ℕ} {cells : List ℤ} {at : ℕ
       pub stage-more : Stage relations tables cells at out₀ (t + 1) r behind out'
       stage-more = record {
         first = S.first + rows * columns;
-        left = b ∙ ap (drop (rows * columns)) S.left ∙ drop-drop (rows * columns) S.first cells;
+        left = b ∙ ap₂ drop e S.left ∙ drop-drop (rows * columns) S.first cells;
         within = omega arith;
         size = L.size ∙ S.size;
         reached = further;

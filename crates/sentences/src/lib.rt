@@ -94,8 +94,8 @@ fn own_words(language: Language, place: Place, n: u8) -> &'static [u8]
 }
 
 // The sentence of a refusal; one that has none of its own is named by its number.
-fn push_said(text: &mut Buffer, language: Language, place: Place, number: u8)
-    requires { length text.old + length (said (language_in language) (texts_in place (language_in language)) number) ≤ 1026 }
+fn push_said<const N: usize>(text: &mut Buffer<N>, language: Language, place: Place, number: u8)
+    requires { length text.old + length (said (language_in language) (texts_in place (language_in language)) number) ≤ N }
     ensures { text.new ≡ text.old ++ said (language_in language) (texts_in place (language_in language)) number }
 {
     if is_known(number) {
@@ -107,8 +107,8 @@ fn push_said(text: &mut Buffer, language: Language, place: Place, number: u8)
 }
 
 #[tactic(auto, unfolding(crate::specs::Sentence::sentence))]
-fn push_sentence(text: &mut Buffer, language: Language, number: u8, line: u16)
-    requires { length text.old + length (sentence (language_in language) number line) ≤ 1026 }
+fn push_sentence<const N: usize>(text: &mut Buffer<N>, language: Language, number: u8, line: u16)
+    requires { length text.old + length (sentence (language_in language) number line) ≤ N }
     ensures { text.new ≡ text.old ++ sentence (language_in language) number line }
 {
     if line == 0 {
@@ -121,8 +121,8 @@ fn push_sentence(text: &mut Buffer, language: Language, number: u8, line: u16)
 }
 
 // The same, closed by LF.
-fn push_closed(text: &mut Buffer, language: Language, number: u8, line: u16)
-    requires { length text.old + length (sentence (language_in language) number line) < 1026 }
+fn push_closed<const N: usize>(text: &mut Buffer<N>, language: Language, number: u8, line: u16)
+    requires { length text.old + length (sentence (language_in language) number line) < N }
     ensures { text.new ≡ text.old ++ (sentence (language_in language) number line ++ 10 ∷ []) }
 {
     push_sentence(text, language, number, line);
@@ -139,7 +139,7 @@ pub fn sentence(number: u8, line: u16, language: u8, out: &mut [u8]) -> usize
     let Ok(language) = Language::try_from(language) else {
         return 0;
     };
-    let mut text = Buffer::new();
+    let mut text = Buffer::<ROOM>::new();
     push_sentence(&mut text, language, number, line);
     text.copy_to(out)
 }
@@ -149,7 +149,7 @@ pub fn sentence(number: u8, line: u16, language: u8, out: &mut [u8]) -> usize
 pub fn both_sentences(number: u8, line: u16, out: &mut [u8]) -> usize
     ensures { Put (both_sentences number line) out.old result out.new }
 {
-    let mut text = Buffer::new();
+    let mut text = Buffer::<SHEET>::new();
     push_closed(&mut text, Language::English, number, line);
     push_closed(&mut text, Language::French, number, line);
     text.copy_to(out)

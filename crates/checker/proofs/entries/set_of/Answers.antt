@@ -1,6 +1,7 @@
 -- `checker::entries::set_of` meets its contract. Assumes nothing.
 use mathlib.Core.Path.{◌≡◌, refl, ap, ap₂, ◌∙◌}
 use Prim.Native.Nat.{min}
+use native.Mathlib.Omega.{arith}
 use lib.ListN.{get_or}
 use Rattle.std.proofs.Common.{rules}
 use Rattle.catalog.specs.Relations.{no_range, width_at}
@@ -14,7 +15,7 @@ returns c =
     let other = c.joined_with-other.ensures in
     record {
       width = c.min-width.ensures ∙ ap₂ min c.width_of.ensures (c.width_of-2.ensures ∙ ap (width_at rs) other);
-      bound = c.set_bound.ensures;
+      bound = omega (arith, c.set_bound.ensures);
       mask = refl;
       start = refl;
       ranges = record {

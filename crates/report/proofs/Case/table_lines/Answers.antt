@@ -14,7 +14,7 @@ returns-in_default c =
 pub loop-t-preserved : goal.loop-t-preserved
 loop-t-preserved c =
     let split = c.in-Some.ensures.cases in
-    stage-more c.loop-t.invariant c.loop-t-test.true c.bound_of-rows.ensures c.width_of-columns.ensures split.1 split.2 c.table_line-place.ensures
+    stage-more c.loop-t.invariant c.loop-t-test.true c.bound_of-rows.ensures c.width_of-columns.ensures split.1 split.2 (omega arith) c.table_line-place.ensures
 
 pub returns : goal.returns
 returns c = stage-all c.loop-t.invariant (omega arith)

@@ -1,11 +1,10 @@
 -- `cases::needs::Needs::with_goal` meets its contract. Assumes nothing.
-use Rattle.cases.specs.Needs.{with_goal}
+use native.Mathlib.Omega.{arith}
+use Rattle.cases.proofs.NeedLaws.{goal-signs, goal-rows}
 use Rattle.cases.proofs.needs.Needs.with_goal.Goals as goal
 
 pub returns-then-goal : goal.returns-then-goal
-unfolding with_goal
-returns-then-goal c = rw (c.put_item.ensures, c.if-goal.true)
+returns-then-goal c = goal-signs _ c.put_item.ensures (omega arith) c.if-goal.true
 
 pub returns-else-goal : goal.returns-else-goal
-unfolding with_goal
-returns-else-goal c = rw (c.put_item-else-goal.ensures, c.if-goal.false)
+returns-else-goal c = goal-rows _ c.put_item-else-goal.ensures (omega arith) c.if-goal.false
