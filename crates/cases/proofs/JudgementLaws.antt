@@ -193,20 +193,14 @@ module _ {source : Source} {needs : Needs} {g : GoalHere} {memory : Memory} wher
     case = λ {F} {d} G R. not_valid F (goal_of g) d (sym (ok.is-valid G R.shaped R.tables) ∙ h);
   }
 
-  pub case-valid : {b r : Bool} {memory' : Memory} → source.outline.filled ≡ true → IsValid source memory.counts memory.work b → b ≡ true
-      → Evaluates source needs memory memory' → IsWanted g memory'.counts memory'.signs r → IsCase source needs g memory r memory'
-  case-valid {r = r} {memory'} f ok h E X = record {
-    early = λ t. let z : judged_further source memory ≡ true = ap₂ (λ (a b : Bool). a && b) f (sym ok.here ∙ h) in absurd (true≢false (sym z ∙ t));
-    late = λ _. (E, X);
-    kept = E.kept;
-    case = λ {F} {d} G R.
-        is-wanted F (goal_of g) d (sym (ok.is-valid G R.shaped R.tables) ∙ h) (filled-rows R.shaped ∙ sym G.filled ∙ f)
-        (wanted-is R (E.known G R));
-  }
+  -- with rows and keys that hold, by what is wanted of the views that are known
+  pub case-known : {F : File} {d : Database} {memory' : Memory} {b r : Bool} → FileLaid F source → Ready F (goal_of g) d needs memory → source.outline.filled ≡ true
+      → b ≡ valid F d → b ≡ true → Known F d needs memory' (length F.tables + length F.views) → IsWanted g memory'.counts memory'.signs r
+      → r ≡ is_case F (goal_of g) d
+  case-known {F} {d} {memory'} {r = r} G R f v h K X = is-wanted F (goal_of g) d (sym v ∙ h) (filled-rows R.shaped ∙ sym G.filled ∙ f) wanted-is
     where
-      wanted-is : {F : File} {d : Database} → Ready F (goal_of g) d needs memory
-          → Known F d needs memory' (length F.tables + length F.views) → r ≡ wanted F d (goal_of g)
-      wanted-is {F} {d} R K =
+      wanted-is : r ≡ wanted F d (goal_of g)
+      wanted-is =
           let v = g.view in
           let first = R.covers.view.behind in
           let last = R.covers.view.before in
@@ -219,3 +213,12 @@ module _ {source : Source} {needs : Needs} {g : GoalHere} {memory : Memory} wher
           (λ e. let flag : Needed needs v = rw e at R.covers.goal in
           let size : n ≡ length (rows F d v) = sym (rows-length memory'.work v (columns_of (schemas F) v) n) ∙ ap length (K.rows-known v last flag) in
           X.by_rows e ∙ ap is_pos size ∙ sym (ap (λ b. cond b A B) e))
+
+  pub case-valid : {b r : Bool} {memory' : Memory} → source.outline.filled ≡ true → IsValid source memory.counts memory.work b → b ≡ true
+      → Evaluates source needs memory memory' → IsWanted g memory'.counts memory'.signs r → IsCase source needs g memory r memory'
+  case-valid f ok h E X = record {
+    early = λ t. let z : judged_further source memory ≡ true = ap₂ (λ (a b : Bool). a && b) f (sym ok.here ∙ h) in absurd (true≢false (sym z ∙ t));
+    late = λ _. (E, X);
+    kept = E.kept;
+    case = λ {F} {d} G R. case-known G R f (ok.is-valid G R.shaped R.tables) h (E.known G R) X;
+  }

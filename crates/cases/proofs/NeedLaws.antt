@@ -23,11 +23,11 @@ use Rattle.language.specs.Legal.{Legal}
 use Rattle.language.specs.Written.{view_bytes}
 use Rattle.language.proofs.LegalAccepted.{legal-well_formed}
 use Rattle.catalog.specs.Frames.{frame_in, front_names, names_in}
-use Rattle.catalog.specs.FileIn.{Source, FileLaid}
+use Rattle.catalog.specs.FileIn.{Source, FileLaid, goal_of}
 use Rattle.catalog.specs.declared.plan.Goal.{Goal as GoalHere}
 use Rattle.catalog.proofs.ViewParts.{view-parts}
 use Rattle.cases.specs.declared.needs.Needs.{Needs}
-use Rattle.cases.specs.Needs.{Flag, Needed, Asked, Asks, flags_of, own_conditions, no_needs, goal_needs, with_goal, More, set_flags, named_in, with_rows, with_signs, with_needs, NamesSet, NeedsRows, NeedsSigns, NeedsWith, NeedsOf}
+use Rattle.cases.specs.Needs.{GoalIn, Covers, Flag, Needed, Asked, Asks, flags_of, own_conditions, no_needs, goal_needs, with_goal, More, set_flags, named_in, with_rows, with_signs, with_needs, NamesSet, NeedsRows, NeedsSigns, NeedsWith, NeedsOf}
 use Rattle.cases.proofs.ViewKinds.{kind-own, kind-set}
 use Rattle.cases.proofs.LookedInto.{named-all, named-below, front_below}
 use Rattle.cases.proofs.FlagLaws.{more_same, more-more, more-all, no_flag, flag-as, more-put, flag-there}
@@ -130,15 +130,18 @@ pub record From (F : File) (v : ℕ) (needs : Needs) : Type 0 where
   pub signs : (u : ℕ) (q : View) → v ≤ u → query (length F.tables) F u ≡ some q → Asked needs u → Asks needs q
 
 -- flags of both kinds
-record Grown (needs needs' : Needs) : Type 0 where
-  rows : More needs.rows needs'.rows
-  signs : More needs.signs needs'.signs
+pub record Grown (needs needs' : Needs) : Type 0 where
+  pub rows : More needs.rows needs'.rows
+  pub signs : More needs.signs needs'.signs
 
 grown-rows : {frame : List ℕ} {needs needs' : Needs} {v : ℕ} → NeedsRows frame needs v needs' → Grown needs needs'
 grown-rows {needs = needs} x = record { rows = x.more; signs = rw x.signs-kept (more_same needs.signs) }
 
 grown-signs : {frame : List ℕ} {needs needs' : Needs} {v : ℕ} → NeedsSigns frame needs v needs' → Grown needs needs'
 grown-signs {needs = needs} y = record { rows = rw y.rows-kept (more_same needs.rows); signs = y.more }
+
+pub grown-next : {frame : List ℕ} {needs needs₁ needs₂ : Needs} {v : ℕ} → NeedsRows frame needs v needs₁ → NeedsSigns frame needs₁ v needs₂ → Grown needs needs₂
+grown-next x y = record { rows = more-more x.more (grown-signs y).rows; signs = more-more (grown-rows x).signs y.more }
 
 -- the flags at first, and as they are
 pub record Reached (source : Source) (first : Needs) (v : ℕ) (needs : Needs) : Type 0 where
@@ -177,10 +180,10 @@ reached-none source first = record {
       record { rows = λ u q h e f. absurd (past u q h e); signs = λ u q h e f. absurd (past u q h e) };
 }
 
-module _ {source : Source} {first : Needs} {v : ℕ} {needs needs₁ needs₂ : Needs} {frame : List ℕ} (r : Reached source first v needs) (h : source.outline.tables < v)
+module _ (source : Source) {v : ℕ} {needs needs₁ needs₂ : Needs} {frame : List ℕ} (h : source.outline.tables < v)
     (l : v ≤ source.outline.relations) (place : frame ≡ frame_in source.bytes source.relations (v - 1))
     (x : NeedsRows frame needs (v - 1) needs₁) (y : NeedsSigns frame needs₁ (v - 1) needs₂) where
-  module _ {F : File} (G : FileLaid F source) (rows-size : length first.rows ≡ 16) (signs-size : length first.signs ≡ 16) where
+  module _ {F : File} (G : FileLaid F source) (room : length needs.rows ≡ 16) (signs-size : length needs.signs ≡ 16) (old : From F v needs) where
     few : v - 1 < 16
     few = omega (arith, h, l, G.relations, G.legal.relation_count)
 
@@ -188,11 +191,9 @@ module _ {source : Source} {first : Needs} {v : ℕ} {needs needs₁ needs₂ : 
     turn-of : (q₀ : View) → query (length F.tables) F (v - 1) ≡ some q₀ → From F (v - 1) needs₂
     turn-of q₀ here =
         let T = length F.tables in
-        let old : From F v needs = r.from G rows-size signs-size in
         let e : frame ≡ view_bytes q₀ = place ∙ G.views (v - 1) q₀ here in
         let below : All (λ i. i < v - 1) (names q₀) = (earlier-of F G.legal).earlier (v - 1) q₀ here in
-        let room : length needs.rows ≡ 16 = r.rows.size ∙ rows-size in
-        let sign-room : length needs₁.signs ≡ 16 = ap length x.signs-kept ∙ r.signs.size ∙ signs-size in
+        let sign-room : length needs₁.signs ≡ 16 = ap length x.signs-kept ∙ signs-size in
         let was-needed : (u : ℕ) → v - 1 ≤ u → Needed needs₂ u → Needed needs u = λ u s f.
         flag-as u (ap (λ (m : List Bool). get_or m u false) y.rows-kept ∙ x.others q₀ e below u s) f in
         let was-asked-then : (u : ℕ) → v - 1 ≤ u → Asked needs₂ u → Asked needs₁ u = λ u s f. flag-as u (y.others q₀ e below u s) f in
@@ -206,7 +207,7 @@ module _ {source : Source} {first : Needs} {v : ℕ} {needs needs₁ needs₂ : 
         asks-all q₀
         (λ c. more-all last.rows (x.for-sign q₀ e room few below c (was-asked (v - 1) self f)))
         (λ c. y.for-sign q₀ e sign-room few below c (was-asked-then (v - 1) self f)) in
-        let both : Grown needs needs₂ = record { rows = more-more x.more last.rows; signs = more-more (grown-rows x).signs y.more } in
+        let both : Grown needs needs₂ = grown-next x y in
         record {
           rows = λ u q k d f. by-test (eqb u (v - 1))
               (λ t. let i : u ≡ v - 1 = eqb-true u (v - 1) t in
@@ -220,15 +221,15 @@ module _ {source : Source} {first : Needs} {v : ℕ} {needs needs₁ needs₂ : 
               (λ t. asks-more both q (old.signs u q (omega (arith, k, h, eqb-false u (v - 1) t)) d (was-asked u k f)));
         }
 
-    turn : From F (v - 1) needs₂
-    turn =
+    pub from-next : From F (v - 1) needs₂
+    from-next =
         let T = length F.tables in
         let (q₀, is) = get_elem-some F.views (v - 1 - T) (omega (arith, h, l, G.tables, G.relations)) in
         let here : query T F (v - 1) ≡ some q₀ = by-lt (v - 1) T (λ t k. absurd (omega (arith, h, G.tables))) (λ t k. rw t is) in
         turn-of q₀ here
 
   -- view v - 1 is the last that is left
-  needs-left : with_needs source.bytes source.relations source.outline.tables (v - 1 - source.outline.tables) needs₂
+  pub needs-left : with_needs source.bytes source.relations source.outline.tables (v - 1 - source.outline.tables) needs₂
       ≡ with_needs source.bytes source.relations source.outline.tables (v - source.outline.tables) needs
   unfolding with_needs
   needs-left =
@@ -243,13 +244,18 @@ module _ {source : Source} {first : Needs} {v : ℕ} {needs needs₁ needs₂ : 
       y.here ∙ ap (λ l. with_signs frame l (v - 1)) x.here ∙ ap₂ both (place ∙ ap (frame_in b a) u) u in
       ap (with_needs b a t n) done ∙ ap (λ k. with_needs b a t k needs) (sym s)
 
+module _ {source : Source} {first : Needs} {v : ℕ} {needs needs₁ needs₂ : Needs} {frame : List ℕ} (r : Reached source first v needs) (h : source.outline.tables < v)
+    (l : v ≤ source.outline.relations) (place : frame ≡ frame_in source.bytes source.relations (v - 1))
+    (x : NeedsRows frame needs (v - 1) needs₁) (y : NeedsSigns frame needs₁ (v - 1) needs₂) where
   pub reached-next : Reached source first (v - 1) needs₂
-  reached-next = record {
-    here = needs-left ∙ r.here;
-    rows = more-more r.rows (more-more x.more (grown-signs y).rows);
-    signs = more-more r.signs (more-more (grown-rows x).signs y.more);
-    from = λ G z w. turn G z w;
-  }
+  reached-next =
+      let both = grown-next x y in
+      record {
+        here = needs-left source h l place x y ∙ r.here;
+        rows = more-more r.rows both.rows;
+        signs = more-more r.signs both.signs;
+        from = λ G z w. from-next source h l place x y G (r.rows.size ∙ z) (r.signs.size ∙ w) (r.from G z w);
+      }
 
 -- ---- the goal's own flag first
 
@@ -269,10 +275,25 @@ grown-flag : {needs needs' : Needs} {v : ℕ} → Grown needs needs' → (asked 
 grown-flag {v = v} n true f = n.signs.kept v f
 grown-flag {v = v} n false f = n.rows.kept v f
 
-pub needs-all : {source : Source} {first : Needs} {g : GoalHere} {v : ℕ} {needs : Needs} → length first.rows ≡ 16 → length first.signs ≡ 16
+-- every view has had its turn
+module _ {source : Source} (first : Needs) {g : GoalHere} {v : ℕ} {needs : Needs} (rows-size : length first.rows ≡ 16) (signs-size : length first.signs ≡ 16)
+    (h : v ≤ source.outline.tables) (more-rows : More (with_goal g first).rows needs.rows) (more-signs : More (with_goal g first).signs needs.signs) where
+  pub covered : {F : File} → FileLaid F source → From F v needs → GoalIn F (goal_of g) → Covers F (goal_of g) needs
+  covered {F} G f W =
+      let few : g.view < 16 = omega (arith, W.before, G.legal.relation_count) in
+      let below : (u : ℕ) (q : View) → query (length F.tables) F u ≡ some q → v ≤ u =
+      λ u q d. let x = query-split (length F.tables) F u q d in omega (arith, x.0, h, G.tables) in
+      record {
+        view = W;
+        goal = grown-flag (record { rows = more-rows; signs = more-signs }) g.negative (goal-flag g first (omega (arith, few, rows-size)) (omega (arith, few, signs-size)));
+        rows = λ u q d k. f.rows u q (below u q d) d k;
+        signs = λ u q d k. f.signs u q (below u q d) d k;
+      }
+
+pub needs-with-all : {source : Source} {first : Needs} {g : GoalHere} {v : ℕ} {needs : Needs} → length first.rows ≡ 16 → length first.signs ≡ 16
     → v ≤ source.outline.tables → Reached source (with_goal g first) v needs → NeedsWith source first g needs
 unfolding with_needs
-needs-all {source} {first} {g} {v} {needs} rows signs h r =
+needs-with-all {source} {first} {g} {v} {needs} rows signs h r =
     let one = goal-grown g first in
     record {
       here =
@@ -281,21 +302,14 @@ needs-all {source} {first} {g} {v} {needs} rows signs h r =
           sym (ap (λ k. with_needs source.bytes source.relations o.tables k needs) z) ∙ r.here;
       more-rows = more-more one.rows r.rows;
       more-signs = more-more one.signs r.signs;
-      covers = λ {F} G W.
-          let f = r.from G (one.rows.size ∙ rows) (one.signs.size ∙ signs) in
-          let few : g.view < 16 = omega (arith, W.before, G.legal.relation_count) in
-          record {
-            view = W;
-            goal = grown-flag (record { rows = r.rows; signs = r.signs }) g.negative (goal-flag g first (omega (arith, few, rows)) (omega (arith, few, signs)));
-            rows = λ u q d k. f.rows u q (below G u q d) d k;
-            signs = λ u q d k. f.signs u q (below G u q d) d k;
-          };
+      covers = λ {F} G W. covered first rows signs h r.rows r.signs G (r.from G (one.rows.size ∙ rows) (one.signs.size ∙ signs)) W;
     }
-  where
-    below : {F : File} → FileLaid F source → (u : ℕ) (q : View) → query (length F.tables) F u ≡ some q → v ≤ u
-    below {F} G u q d = let x = query-split (length F.tables) F u q d in omega (arith, x.0, h, G.tables)
 
 -- no flag before that of the goal
 pub needs-alone : {source : Source} {g : GoalHere} {needs : Needs} → NeedsWith source no_needs g needs → NeedsOf source g needs
 unfolding with_goal goal_needs
 needs-alone w = record { here = w.here; covers = w.covers }
+
+pub needs-all : {source : Source} {g : GoalHere} {v : ℕ} {needs : Needs} → v ≤ source.outline.tables → Reached source (goal_needs g) v needs → NeedsOf source g needs
+unfolding with_goal goal_needs
+needs-all h r = needs-alone (needs-with-all refl refl h r)

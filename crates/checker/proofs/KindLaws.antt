@@ -38,7 +38,7 @@ use Rattle.language.proofs.FairReaders.{Good, Nil}
 use Rattle.language.proofs.FairFrames.{Well, fair-frame}
 use Rattle.checker.proofs.SetLaws.{set-added}
 use Rattle.checker.proofs.StandingLaws.{counts-table, counts-key, counts-view, counts-goal}
-use Rattle.checker.proofs.StepLaws.{Found, only_none, only-stored, turned-refused, turned-done}
+use Rattle.checker.proofs.StepLaws.{Found, only_none, only-entered, turned-refused, turned-done}
 use Rattle.language.proofs.Turns.{item_stage, Turn, turn, stage-known}
 use Rattle.catalog.specs.declared.relation.Relation.{Relation}
 
@@ -73,7 +73,7 @@ module _ {f : List ℕ} {s : Progress} {relations : List Relation} {s' : Progres
   -- ---- 01
 
   pub table_done : (x : Relation) → TableFault f 0 → TableOf f x → s' ≡ with_table s → Turned 1 f s relations (set relations s.relations x) (Ok s')
-  table_done x t e w = turned-done s' (only-stored s.relations x relations e.start)
+  table_done x t e w = turned-done s' (only-entered s.relations x relations e.start)
       (λ d h o r. t.at d)
       (λ d i h o r reads whole. go d i h (item-stage d 1 (drop 1 f) i o reads) (item-turn d 1 (drop 1 f) i o r reads) reads)
     where
@@ -162,7 +162,7 @@ module _ (grouped : Bool) {f : List ℕ} {s : Progress} {relations : List Relati
 
   pub view-done : {s' : Progress} (x : Relation) → BytesFault grouped f relations s.relations 0 → Rules grouped f relations (Ok x) → s' ≡ with_view s
       → Turned (own_kind grouped) f s relations (set relations s.relations x) (Ok s')
-  view-done {s'} x b rules w = turned-done s' (only-stored s.relations x relations (rules.entered x refl).start) (view-found (Ok x) b rules)
+  view-done {s'} x b rules w = turned-done s' (only-entered s.relations x relations (rules.entered x refl).start) (view-found (Ok x) b rules)
       (λ d i h o r reads whole. go d i h (sym (stage-own grouped) ∙ item-stage d (own_kind grouped) (drop 1 f) i o reads) (item-turn d (own_kind grouped) (drop 1 f) i o r reads)
       (ap (λ (m : Reader Item). m (drop 1 f)) (sym (frame-own grouped d)) ∙ reads) whole)
     where
@@ -210,7 +210,7 @@ module _ (op : SetOperation) {f : List ℕ} {s : Progress} {relations : List Rel
 
   pub set-done : {s' : Progress} {p : SetParts} (x : Relation) → SetFault f relations s.tables s.relations op 0 → p ≡ set_parts_in f
       → SetOf op p.left p.right relations x → s' ≡ with_view s → Turned (set_kind op) f s relations (set relations s.relations x) (Ok s')
-  set-done {s'} {p} x t pe e w = turned-done s' (only-stored s.relations x relations e.start) (set_found t)
+  set-done {s'} {p} x t pe e w = turned-done s' (only-entered s.relations x relations e.start) (set_found t)
       (λ d i h o r reads whole. go d i h (set-read d op f i (ap (λ (m : Reader Item). m (drop 1 f)) (sym (set-frame op d)) ∙ reads))
       (item-turn d (set_kind op) (drop 1 f) i o r reads) whole)
     where

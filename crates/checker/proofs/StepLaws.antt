@@ -15,7 +15,7 @@ use Rattle.language.specs.Draft.{Draft, Item, added, in_order, has_room}
 use Rattle.language.specs.Frames.{frame, whole_fault}
 use Rattle.language.specs.Check.{Checked, check_frame, read_checked}
 use Rattle.checker.specs.Catalogued.{Catalogued, checked_fault, body_fault}
-use Rattle.catalog.specs.Relations.{start_at}
+use Rattle.catalog.specs.Relations.{relation_at, start_at}
 use Rattle.catalog.proofs.RelationLaws.{put-there, put-other}
 use Rattle.meaning.proofs.Stacks.{by-lt}
 use Rattle.checker.specs.ViewFaults.{own_kind}
@@ -50,10 +50,16 @@ reads_same d k j bs cs m e r = let p : k ≡ j = cc in let q : bs ≡ cs = cc in
 pub only_none : {r : ℕ} {rs : List Relation} → OnlyRelation r rs rs
 only_none = record { size = refl; others = λ i n. refl; place = inr refl }
 
-pub only-stored : (r : ℕ) (x : Relation) (rs : List Relation) → x.start ≡ 0 → OnlyRelation r rs (set rs r x)
-only-stored r x rs z = record {
-  size = length-set rs r x;
-  others = λ i n. put-other rs r i x n;
+-- whatever relation is stored
+pub only-stored : (r : ℕ) (x : Relation) (rs : List Relation)
+    → (length (set rs r x) ≡ length rs) × ((i : ℕ) → (i ≡ r → ⊥) → relation_at (set rs r x) i ≡ relation_at rs i)
+only-stored r x rs = (length-set rs r x, λ i n. put-other rs r i x n)
+
+-- one whose frame has no place yet
+pub only-entered : (r : ℕ) (x : Relation) (rs : List Relation) → x.start ≡ 0 → OnlyRelation r rs (set rs r x)
+only-entered r x rs z = record {
+  size = (only-stored r x rs).0;
+  others = (only-stored r x rs).1;
   place = by-lt r (length rs)
       (λ _ l. inl (ap (λ (y : Relation). y.start) (put-there rs r x l) ∙ z))
       (λ _ l. inr (ap (λ ys. start_at ys r) (set_out rs r x l)));

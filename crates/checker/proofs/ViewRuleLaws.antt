@@ -115,20 +115,30 @@ module _ (frame : List ℕ) (start : ℕ) (items : List ℕ) (rs : List Relation
     pub so_far : Selects frame start c items rs rule (record { ranges = ranges; allowed = allowed; within = within })
     pub next : (r : ℕ) (es : List Expr) (rest : List ℕ) → repeated c (read_e (open_in rs r items)) (drop start frame) ≡ Read.ok es rest → drop at frame ≡ rest
 
-  pub selects-none : (ranges : List Range) → length ranges ≡ 8 → ((k : ℕ) → get_or ranges k no_range ≡ no_range) → SelectsTo 0 ranges start true true
+  -- before the first, whatever the ranges are
+  pub selects-none : (ranges : List Range) (r : ℕ) (es : List Expr) (rest : List ℕ) → repeated 0 (read_e (open_in rs r items)) (drop start frame) ≡ Read.ok es rest
+      → (true ≡ all (allowed_e (permitted_of frame rule)) es)
+      × (true ≡ all (within_e (open_ranges_in rs r items rule.bound)) es)
+      × (first_ranges ranges 0 ≡ map (range (open_ranges_in rs r items rule.bound)) es)
+      × (drop start frame ≡ rest)
   unfolding listed
-  selects-none ranges long none = record {
+  selects-none ranges r es rest h =
+      let e : [] ≡ es = cc in (
+        ap (all (allowed_e (permitted_of frame rule))) e,
+        ap (all (within_e (open_ranges_in rs r items rule.bound))) e,
+        ap (map (range (open_ranges_in rs r items rule.bound))) e,
+        cc,
+      )
+
+  -- and where each is 0 to 0
+  pub selects-begun : (ranges : List Range) → length ranges ≡ 8 → ((k : ℕ) → get_or ranges k no_range ≡ no_range) → SelectsTo 0 ranges start true true
+  selects-begun ranges long none = record {
     long = long;
     so_far = record {
-      selects = λ l r es rest h.
-          let e : [] ≡ es = cc in (
-            ap (all (allowed_e (permitted_of frame rule))) e,
-            ap (all (within_e (open_ranges_in rs r items rule.bound))) e,
-            λ _. ap (map (range (open_ranges_in rs r items rule.bound))) e,
-          );
+      selects = λ l r es rest h. let (a, b, c, d) = selects-none ranges r es rest h in (a, b, λ _. c);
       rest = λ k l. none k;
     };
-    next = λ r es rest h. cc;
+    next = λ r es rest h. (selects-none ranges r es rest h).3;
   }
 
   pub selects-more : {c : ℕ} {ranges ranges' : List Range} {at : ℕ} {allowed within within' : Bool} {z : Sized} → SelectsTo c ranges at allowed within

@@ -140,33 +140,34 @@ module _ {s : Search} {needs : Needs} {memory : Memory} where
     none = λ F P D A j a b. absurd (omega arith);
   }
 
-  module _ {k : ℕ} {memory₁ memory₂ : Memory} {b : Bool} (S : Scanned s needs memory k memory₁) (J : IsCase s.source needs s.goal memory₁ b memory₂) where
-    -- a test changes views
+  -- a test that changes views only, and tells whether the candidate is a case
+  module _ {k : ℕ} {memory₁ memory₂ : Memory} {b : Bool} (S : Scanned s needs memory k memory₁) (V : OnlyViews s.source.outline memory₁ memory₂)
+      (told : (F : File) → Setting F s.source needs s.goal → At F memory₁ k → b ≡ is_case_at F k) where
     after_test : OnlySearched s memory.work memory₂.work
-    after_test = only-more S.only (only_wider (λ t v. inr v) J.kept.cells)
+    after_test = only-more S.only (only_wider (λ t v. inr v) V.cells)
 
     after-counts : (i : ℕ) → (ViewIn s.source.outline i → ⊥) → get_or memory₂.counts i 0 ≡ get_or memory.counts i 0
-    after-counts i h = J.kept.counts i h ∙ S.counts i h
+    after-counts i h = V.counts i h ∙ S.counts i h
 
     after-signs : (i : ℕ) → (ViewIn s.source.outline i → ⊥) → get_or memory₂.signs i 0 ≡ get_or memory.signs i 0
-    after-signs i h = J.kept.signs i h ∙ S.signs i h
+    after-signs i h = V.signs i h ∙ S.signs i h
 
-    pub scanned-more : b ≡ false → {work₃ : List ℤ} → Moved (places_of s) k (k + 1) memory₂.work work₃
+    pub scanned-past : b ≡ false → {work₃ : List ℤ} → Moved (places_of s) k (k + 1) memory₂.work work₃
         → Scanned s needs memory (k + 1) (memory_from memory₂.counts memory₂.signs work₃)
-    scanned-more e M = record {
+    scanned-past e M = record {
       only = only-more after_test (only_wider (λ t v. inl v) M.only);
-      counts-size = J.kept.counts-size ∙ S.counts-size;
-      signs-size = J.kept.signs-size ∙ S.signs-size;
+      counts-size = V.counts-size ∙ S.counts-size;
+      signs-size = V.signs-size ∙ S.signs-size;
       counts = after-counts;
       signs = after-signs;
-      here = λ F P D A. moved_at P.file D J.kept M (S.here F P D A);
+      here = λ F P D A. moved_at P.file D V M (S.here F P D A);
       none = λ F P D A j a l. by-lt j k
           (λ _ h. S.none F P D A j a h)
-          (λ _ h. let q : j ≡ k = omega arith in rw q (sym (judged J F P (S.here F P D A)) ∙ e));
+          (λ _ h. let q : j ≡ k = omega arith in rw q (sym (told F P (S.here F P D A)) ∙ e));
     }
 
-    pub scanned-found : s.start ≤ k → k < s.end → b ≡ true → Scans s needs memory (Some k) memory₂
-    scanned-found f l e = record {
+    pub scanned-at : s.start ≤ k → k < s.end → b ≡ true → Scans s needs memory (Some k) memory₂
+    scanned-at f l e = record {
       only = after_test;
       counts = after-counts;
       signs = after-signs;
@@ -178,11 +179,19 @@ module _ {s : Search} {needs : Needs} {memory : Memory} where
               from = f;
               to = omega arith;
               none = S.none F P D A;
-              hit = λ _. sym (judged J F P X) ∙ e;
+              hit = λ _. sym (told F P X) ∙ e;
             });
-            cells = cells-kept P.file.legal P.file.tables J.kept ∙ X.cells;
+            cells = cells-kept P.file.legal P.file.tables V ∙ X.cells;
           };
     }
+
+  module _ {k : ℕ} {memory₁ memory₂ : Memory} {b : Bool} (S : Scanned s needs memory k memory₁) (J : IsCase s.source needs s.goal memory₁ b memory₂) where
+    pub scanned-more : b ≡ false → {work₃ : List ℤ} → Moved (places_of s) k (k + 1) memory₂.work work₃
+        → Scanned s needs memory (k + 1) (memory_from memory₂.counts memory₂.signs work₃)
+    scanned-more = scanned-past S J.kept (judged J)
+
+    pub scanned-found : s.start ≤ k → k < s.end → b ≡ true → Scans s needs memory (Some k) memory₂
+    scanned-found = scanned-at S J.kept (judged J)
 
   pub scanned-all : {k : ℕ} {memory₁ : Memory} → Scanned s needs memory k memory₁ → s.end ≤ k → Scans s needs memory None memory₁
   scanned-all {k} S l = record {

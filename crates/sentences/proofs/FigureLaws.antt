@@ -34,6 +34,13 @@ pub more-figures : (n : ℕ) → 10 ≤ n → n < 100000 → figures n ≡ figur
 unfolding figures_of
 more-figures n h l = rw (le-ltb n 10 h) (ap (λ (s : List ℕ). s ++ (n % 10 + 48) ∷ []) (enough 3 (n / 10) (omega arith)))
 
+-- their number
+pub one-long : (n : ℕ) → n < 10 → length (figures n) ≡ 1
+one-long n h = ap length (one-figure n h)
+
+pub more-long : (n : ℕ) → 10 ≤ n → n < 100000 → length (figures n) ≡ length (figures (n / 10)) + 1
+more-long n h l = ap length (more-figures n h l) ∙ length-append (figures (n / 10)) ((n % 10 + 48) ∷ [])
+
 -- ---- the figures, first to last
 
 -- the last figure of a number's front; an empty front, 0, has none

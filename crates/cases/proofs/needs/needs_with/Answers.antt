@@ -1,7 +1,7 @@
 -- `cases::needs::needs_with` meets its contract. Assumes nothing.
 use native.Mathlib.Omega.{arith}
 use borrow.Author.Rules.{rules}
-use Rattle.cases.proofs.NeedLaws.{reached-none, reached-next, needs-all}
+use Rattle.cases.proofs.NeedLaws.{reached-none, reached-next, needs-with-all}
 use Rattle.cases.proofs.needs.needs_with.Goals as goal
 
 pub loop-v-init : goal.loop-v-init
@@ -13,4 +13,4 @@ loop-v-preserved c =
     c.frame-frame.ensures c.need_rows-needs.ensures c.need_signs-needs.ensures
 
 pub returns : goal.returns
-returns c = needs-all (search rules) (search rules) c.loop-v-test.false c.loop-v.invariant
+returns c = needs-with-all (search rules) (search rules) c.loop-v-test.false c.loop-v.invariant
