@@ -140,6 +140,7 @@ grown-rows {needs = needs} x = record { rows = x.more; signs = rw x.signs-kept (
 grown-signs : {frame : List ℕ} {needs needs' : Needs} {v : ℕ} → NeedsSigns frame needs v needs' → Grown needs needs'
 grown-signs {needs = needs} y = record { rows = rw y.rows-kept (more_same needs.rows); signs = y.more }
 
+-- by one view
 pub grown-next : {frame : List ℕ} {needs needs₁ needs₂ : Needs} {v : ℕ} → NeedsRows frame needs v needs₁ → NeedsSigns frame needs₁ v needs₂ → Grown needs needs₂
 grown-next x y = record { rows = more-more x.more (grown-signs y).rows; signs = more-more (grown-rows x).signs y.more }
 
@@ -221,6 +222,7 @@ module _ (source : Source) {v : ℕ} {needs needs₁ needs₂ : Needs} {frame : 
               (λ t. asks-more both q (old.signs u q (omega (arith, k, h, eqb-false u (v - 1) t)) d (was-asked u k f)));
         }
 
+    -- and that it is there
     pub from-next : From F (v - 1) needs₂
     from-next =
         let T = length F.tables in
@@ -277,7 +279,7 @@ grown-flag {v = v} n false f = n.rows.kept v f
 
 -- every view has had its turn
 module _ {source : Source} (first : Needs) {g : GoalHere} {v : ℕ} {needs : Needs} (rows-size : length first.rows ≡ 16) (signs-size : length first.signs ≡ 16)
-    (h : v ≤ source.outline.tables) (more-rows : More (with_goal g first).rows needs.rows) (more-signs : More (with_goal g first).signs needs.signs) where
+    (h : v ≤ source.outline.tables) (grown : Grown (with_goal g first) needs) where
   pub covered : {F : File} → FileLaid F source → From F v needs → GoalIn F (goal_of g) → Covers F (goal_of g) needs
   covered {F} G f W =
       let few : g.view < 16 = omega (arith, W.before, G.legal.relation_count) in
@@ -285,7 +287,7 @@ module _ {source : Source} (first : Needs) {g : GoalHere} {v : ℕ} {needs : Nee
       λ u q d. let x = query-split (length F.tables) F u q d in omega (arith, x.0, h, G.tables) in
       record {
         view = W;
-        goal = grown-flag (record { rows = more-rows; signs = more-signs }) g.negative (goal-flag g first (omega (arith, few, rows-size)) (omega (arith, few, signs-size)));
+        goal = grown-flag grown g.negative (goal-flag g first (omega (arith, few, rows-size)) (omega (arith, few, signs-size)));
         rows = λ u q d k. f.rows u q (below u q d) d k;
         signs = λ u q d k. f.signs u q (below u q d) d k;
       }
@@ -302,7 +304,7 @@ needs-with-all {source} {first} {g} {v} {needs} rows signs h r =
           sym (ap (λ k. with_needs source.bytes source.relations o.tables k needs) z) ∙ r.here;
       more-rows = more-more one.rows r.rows;
       more-signs = more-more one.signs r.signs;
-      covers = λ {F} G W. covered first rows signs h r.rows r.signs G (r.from G (one.rows.size ∙ rows) (one.signs.size ∙ signs)) W;
+      covers = λ {F} G W. covered first rows signs h (record { rows = r.rows; signs = r.signs }) G (r.from G (one.rows.size ∙ rows) (one.signs.size ∙ signs)) W;
     }
 
 -- no flag before that of the goal
@@ -310,6 +312,7 @@ pub needs-alone : {source : Source} {g : GoalHere} {needs : Needs} → NeedsWith
 unfolding with_goal goal_needs
 needs-alone w = record { here = w.here; covers = w.covers }
 
+-- the same at once
 pub needs-all : {source : Source} {g : GoalHere} {v : ℕ} {needs : Needs} → v ≤ source.outline.tables → Reached source (goal_needs g) v needs → NeedsOf source g needs
 unfolding with_goal goal_needs
 needs-all h r = needs-alone (needs-with-all refl refl h r)

@@ -26,13 +26,13 @@ use Rattle.text.specs.Refusals.{number_of as reason_number, numbers_of}
 use Rattle.text.specs.declared.refusal.Refusal.{Refusal}
 use Rattle.checker.specs.Plans.{Plans}
 use Rattle.catalog.specs.declared.plan.Plan.{Plan}
-use Rattle.look.specs.Looks.{answer_of, LooksAt}
+use Rattle.look.specs.Looks.{answer_of, Says, LooksAt}
 use Rattle.language.specs.LookOf.{look_of}
 use Rattle.look.specs.declared.Answer.{Answer as Answered}
 use Rattle.look.specs.declared.Answer.TheVariants.{Case, NoCase, Spent}
 use Rattle.language.proofs.WholeSearch.{first, shown_all, all-case, all_none, answered, whole-look}
 use Rattle.look.proofs.CellLaws.{cells-few}
-use Rattle.look.proofs.LookLaws.{looks-planned}
+use Rattle.look.proofs.LookLaws.{says-own, looks-planned}
 use Rattle.language.proofs.RealLooks.{look-of-text}
 use Rattle.language.specs.OutputOf.{no_case_frame, refusal_frame, answer_frames, searched_all, outcome_frames, output_of, output_room, Printed}
 use Rattle.report.specs.Lines.{Grown, CaseLined}
@@ -133,6 +133,12 @@ pub said-planned : (text : List ℕ) {p : Result Plan Refusal} {count : ℕ} {wo
     → 512 ≤ length inst → Plans (file_of text) p → LooksAt numbers_of p 0 count work inst a w i → Said text (answer_of a) i
 said-planned text {count = count} {work} {inst} {a} {w} {i} many whole room P L =
     said text count work inst (answer_of a) w i many whole room (looks-planned text L P).after
+
+-- by what `look::look_at` promises of a plan, or a refusal of the checker
+pub said-looked : (text : List ℕ) {p : Result Plan Refusal} {count : ℕ} {work inst : List ℤ} {a : Result Answered Refusal} {w i : List ℤ} → candidate_limit ≤ count → work_size ≤ length work
+    → 512 ≤ length inst → Plans (file_of text) p
+    → ((says : Refusal → ℕ × ℕ) → Says (λ r e. e ≡ r) says → LooksAt says p 0 count work inst a w i) → Said text (answer_of a) i
+said-looked text many whole room P L = said-planned text many whole room P (L numbers_of says-own)
 
 -- ---- the output
 
